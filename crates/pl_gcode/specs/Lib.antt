@@ -1,0 +1,4 @@
+pub mod Print
+pub mod Extrusion
+pub mod Paths
+pub mod Gcode

@@ -1,0 +1,4 @@
+pub mod PlaneLemmas
+pub mod RunLemmas
+pub mod Setting
+pub mod StrokeBounds

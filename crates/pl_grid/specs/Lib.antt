@@ -1,0 +1,5 @@
+pub mod Extent
+pub mod Lines
+pub mod Planes
+pub mod Strokes
+pub mod NearStrokes

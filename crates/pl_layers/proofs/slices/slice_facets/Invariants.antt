@@ -1,0 +1,6 @@
+use Rattle.std.proofs.Common.{◌≡◌}
+use Rattle.pl_layers.specs.Filling.{filled_to}
+use Rattle.pl_layers.proofs.slices.slice_facets.Given as goal
+
+abbrev pub invariant-loop-row : goal.invariant-loop-row
+invariant-loop-row l = l.plane ≡ filled_to l.bounds l.facets l.corner l.row 0

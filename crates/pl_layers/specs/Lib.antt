@@ -1,0 +1,9 @@
+pub mod Turned
+pub mod Parts
+pub mod Spans
+pub mod Heights
+pub mod Samples
+pub mod Hits
+pub mod Near
+pub mod Slices
+pub mod Filling

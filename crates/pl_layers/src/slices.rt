@@ -1,0 +1,187 @@
+//! The cells of a layer.
+ghost use Rattle.std.specs.Prelude.{◌≡◌, ◌<◌, ◌^◌, ◌+◌, ◌+ℤ◌, ◌*ℤ◌, ◌&&◌, ◌||◌, int_le, ℕ, pos, IfOk};
+ghost use Rattle.std.specs.List.{filter};
+ghost use Rattle.pl_units.specs.Within.{Within};
+ghost use Rattle.pl_stl.specs.Mesh.{IsMesh};
+ghost use Rattle.pl_grid.specs.Planes.{with_cell};
+ghost use Rattle.pl_layers.specs.Turned.{turned_mesh, box_of};
+ghost use Rattle.pl_layers.specs.Heights.{AreHeights, layer_count_of};
+ghost use Rattle.pl_layers.specs.Hits.{is_in_mesh};
+ghost use Rattle.pl_layers.specs.Near.{IsClose, AllClose};
+ghost use Rattle.pl_layers.specs.Slices.{corner_of, cell_point, inside_of, slice_of};
+ghost use Rattle.pl_layers.specs.Filling.{spans, filled_to};
+
+use crate::heights::{Heights, sample};
+use crate::hits::is_in_mesh;
+use crate::turned::{Part, box_over, span_of, turned_facet};
+use pl_grid::{Box2, Plane};
+use pl_stl::{Facet, Mesh, Point3};
+use pl_units::{Nm, NoMemory};
+use std::alloc::Global;
+
+/// The sum of two lengths.
+fn sum(a: &Nm, b: &Nm) -> Nm
+    requires a { Within (2 ^ 40) a.now.0 }
+    requires b { Within (2 ^ 40) b.now.0 }
+    ensures { result.0 ≡ a.now.0 +ℤ b.now.0 }
+{
+    Nm(a.0 + b.0)
+}
+
+/// The middle of the cell that lies `count` cells after the one with its middle at `first`.
+fn middle_after(first: &Nm, count: i32) -> Nm
+    requires first { Within (2 ^ 30) first.now.0 }
+    requires count { Within (2 ^ 17) count }
+    ensures { result.0 ≡ first.now.0 +ℤ pos 400000 *ℤ count }
+{
+    Nm(first.0 + 400_000 * i64::from(count))
+}
+
+/// The middle of a cell, where `corner` is that of the cell 0 0.
+fn cell_point(corner: &Point3, x: i32, y: i32) -> Point3
+    requires corner { IsClose corner.now }
+    requires x { Within (2 ^ 17) x }
+    requires y { Within (2 ^ 17) y }
+    ensures { result ≡ cell_point corner.now x y }
+{
+    Point3 {
+        x: middle_after(&corner.x, x),
+        y: middle_after(&corner.y, y),
+        z: corner.z,
+    }
+}
+
+/// The box of the cells after a turn, and the middle of the cell 0 0 at the height at which layer `k` is sampled.
+fn place(facets: &[Facet], quarter: u8, heights: Heights, k: u32) -> (Box2, Point3)
+    requires quarter { quarter < 4 }
+    requires facets { IsMesh facets.now }
+    requires heights { AreHeights heights }
+    requires k { k < layer_count_of heights facets.now }
+    ensures bounds { result.0 ≡ box_of quarter facets.now }
+    ensures corner { result.1 ≡ corner_of (turned_mesh quarter facets.now) heights k }
+{
+    let half = Nm(200_000);
+    let x = span_of(facets, quarter, Part::X);
+    let y = span_of(facets, quarter, Part::Y);
+    let z = span_of(facets, quarter, Part::Z);
+    let corner = Point3 {
+        x: sum(&x.least, &half),
+        y: sum(&y.least, &half),
+        z: sum(&z.least, &sample(heights, k)),
+    };
+    (box_over(&x, &y), corner)
+}
+
+/// Whether some corner of the facet is at this height or below.
+fn reaches_down(z: &Nm, facet: &Facet) -> bool
+    ensures { result ≡ (int_le facet.now.a.z.0 z.now.0 || int_le facet.now.b.z.0 z.now.0 || int_le facet.now.c.z.0 z.now.0) }
+{
+    facet.a.z.0 <= z.0 || facet.b.z.0 <= z.0 || facet.c.z.0 <= z.0
+}
+
+/// Whether each corner of the facet is at this height or below.
+fn stays_down(z: &Nm, facet: &Facet) -> bool
+    ensures { result ≡ (int_le facet.now.a.z.0 z.now.0 && int_le facet.now.b.z.0 z.now.0 && int_le facet.now.c.z.0 z.now.0) }
+{
+    facet.a.z.0 <= z.0 && facet.b.z.0 <= z.0 && facet.c.z.0 <= z.0
+}
+
+/// Whether the facet has corners at this height or below, and corners above it.
+fn spans(z: &Nm, facet: &Facet) -> bool
+    ensures { result ≡ spans z.now.0 facet.now }
+{
+    reaches_down(z, facet) && !stays_down(z, facet)
+}
+
+/// The facets of a turned mesh that span a height: no other is hit from there.
+fn facets_at(alloc: Global, facets: &[Facet], quarter: u8, z: &Nm) -> Result<Vec<Facet>, NoMemory>
+    requires quarter { quarter < 4 }
+    requires facets { IsMesh facets.now }
+    ensures { IfOk result (λ v. v.items ≡ filter (spans z.now.0) (turned_mesh quarter facets.now)) }
+{
+    let mut spanning = Vec::new(alloc);
+    for facet in facets {
+        let turned = turned_facet(facet, quarter);
+        if spans(z, &turned) {
+            spanning.push(turned)?;
+        }
+    }
+    Ok(spanning)
+}
+
+/// Fills the cell at a column and a row if its middle lies in the mesh.
+fn fill_cell(plane: &mut Plane, facets: &[Facet], corner: &Point3, column: u32, row: u32)
+    requires origin_x { plane.old.bounds.x0 ≡ pos 0 }
+    requires origin_y { plane.old.bounds.y0 ≡ pos 0 }
+    requires column { column < plane.old.bounds.cols }
+    requires row { row < plane.old.bounds.rows }
+    requires few_columns { column < 8192 }
+    requires few_rows { row < 8192 }
+    requires corner { IsClose corner.now }
+    requires point { IsClose (cell_point corner.now (pos column) (pos row)) }
+    requires facets { AllClose facets.now }
+    ensures { plane.new ≡ with_cell plane.old (pos column) (pos row) (is_in_mesh facets.now (cell_point corner.now (pos column) (pos row))) }
+{
+    let x = column as i32;
+    let y = row as i32;
+    let inside = is_in_mesh(facets, &cell_point(corner, x, y));
+    plane.set(x, y, inside);
+}
+
+/// Fills the cells of a row whose middles lie in the mesh.
+fn fill_row(plane: &mut Plane, bounds: Box2, facets: &[Facet], corner: &Point3, row: u32)
+    requires origin_x { bounds.x0 ≡ pos 0 }
+    requires origin_y { bounds.y0 ≡ pos 0 }
+    requires row { row < bounds.rows }
+    requires corner { IsClose corner.now }
+    requires points { (i : ℕ) → i < bounds.cols → IsClose (cell_point corner.now (pos i) (pos row)) }
+    requires facets { AllClose facets.now }
+    requires before { plane.old ≡ filled_to bounds facets.now corner.now row 0 }
+    ensures { plane.new ≡ filled_to bounds facets.now corner.now (row + 1) 0 }
+{
+    for column in 0..bounds.cols {
+        fill_cell(plane, facets, corner, column, row);
+    }
+}
+
+/// The cells of a box at 0 0 whose middles lie in the mesh, where `corner` is the middle of the cell 0 0.
+fn slice_facets(
+    alloc: Global,
+    bounds: Box2,
+    facets: &[Facet],
+    corner: &Point3,
+) -> Result<Plane, NoMemory>
+    requires origin_x { bounds.x0 ≡ pos 0 }
+    requires origin_y { bounds.y0 ≡ pos 0 }
+    requires corner { IsClose corner.now }
+    requires points { (i j : ℕ) → i < bounds.cols → j < bounds.rows → IsClose (cell_point corner.now (pos i) (pos j)) }
+    requires facets { AllClose facets.now }
+    ensures { IfOk result (λ p. p ≡ inside_of bounds facets.now corner.now) }
+{
+    let mut plane = Plane::empty(alloc, bounds)?;
+    for row in 0..bounds.rows {
+        fill_row(&mut plane, bounds, facets, corner, row);
+    }
+    Ok(plane)
+}
+
+/// The cells of layer `k` of an object after `quarter` quarter turns counterclockwise: those whose middles lie in
+/// the mesh at the height at which the layer is sampled. `quarter` is below 4, the heights are in their ranges, and
+/// `k` is below the object's number of layers. The one refusal is for want of memory.
+pub fn slice_layer(
+    alloc: Global,
+    mesh: &Mesh,
+    quarter: u8,
+    heights: Heights,
+    k: u32,
+) -> Result<Plane, NoMemory>
+    requires quarter { quarter < 4 }
+    requires heights { AreHeights heights }
+    requires k { k < layer_count_of heights mesh.now }
+    ensures { IfOk result (λ p. p ≡ slice_of mesh.now quarter heights k) }
+{
+    let facets = mesh.facets();
+    let (bounds, corner) = place(facets, quarter, heights, k);
+    let spanning = facets_at(alloc, facets, quarter, &corner.z)?;
+    slice_facets(alloc, bounds, &spanning, &corner)
+}

@@ -1,0 +1,160 @@
+//! What `plater` writes and answers, row by row.
+use crate::{Status, TopFault, plater};
+use pl_ports::{MemorySink, MemorySource, OpenGate, SteadySink, SteadySource};
+use pl_script::ScriptFault;
+use pl_units::Text;
+use std::alloc::Global;
+use std::sync::Wait;
+use std::test::Fail;
+use std::thread::Threads;
+
+// A script with a box of 0.8 by 0.8 by 0.4 mm, up to its commands.
+const BOX: &[u8] =
+    b"plater 1\ndata box\nsolid box\nfacet normal 0 0 0\nouter loop\nvertex 0 0 0\nvertex 0 0.8 0\nvertex 0.8 0 0\nendloop\nendfacet\nfacet normal 0 0 0\nouter loop\nvertex 0.8 0 0\nvertex 0 0.8 0\nvertex 0.8 0.8 0\nendloop\nendfacet\nfacet normal 0 0 0\nouter loop\nvertex 0 0 0.4\nvertex 0.8 0 0.4\nvertex 0 0.8 0.4\nendloop\nendfacet\nfacet normal 0 0 0\nouter loop\nvertex 0.8 0 0.4\nvertex 0.8 0.8 0.4\nvertex 0 0.8 0.4\nendloop\nendfacet\nfacet normal 0 0 0\nouter loop\nvertex 0 0 0\nvertex 0.8 0 0\nvertex 0 0 0.4\nendloop\nendfacet\nfacet normal 0 0 0\nouter loop\nvertex 0.8 0 0\nvertex 0.8 0 0.4\nvertex 0 0 0.4\nendloop\nendfacet\nfacet normal 0 0 0\nouter loop\nvertex 0 0.8 0\nvertex 0 0.8 0.4\nvertex 0.8 0.8 0\nendloop\nendfacet\nfacet normal 0 0 0\nouter loop\nvertex 0.8 0.8 0\nvertex 0 0.8 0.4\nvertex 0.8 0.8 0.4\nendloop\nendfacet\nfacet normal 0 0 0\nouter loop\nvertex 0 0 0\nvertex 0 0 0.4\nvertex 0 0.8 0\nendloop\nendfacet\nfacet normal 0 0 0\nouter loop\nvertex 0 0.8 0\nvertex 0 0 0.4\nvertex 0 0.8 0.4\nendloop\nendfacet\nfacet normal 0 0 0\nouter loop\nvertex 0.8 0 0\nvertex 0.8 0.8 0\nvertex 0.8 0 0.4\nendloop\nendfacet\nfacet normal 0 0 0\nouter loop\nvertex 0.8 0.8 0\nvertex 0.8 0.8 0.4\nvertex 0.8 0 0.4\nendloop\nendfacet\nendsolid box\n.end\n";
+
+// What a load, an apply and an export of the box write.
+const TRANSCRIPT: &[u8] =
+    b"1 s1 load cube box = object 0\n2 s1 apply = changed\n3 s1 export = gcode 409\n; headless plater\nG21\nG90\nM83\nM140 S60\nM104 S215\nM190 S60\nM109 S215\n;Z 0.200\nG1 Z0.200 F7800\n;OBJECT 0 0\nG1 X0.000 Y0.200 F7800\nG1 F4800\nG1 X0.800 Y0.200 E0.02660\nG1 X0.800 Y0.600 F7800\nG1 F4800\nG1 X0.000 Y0.600 E0.02660\n;Z 0.400\nG1 Z0.400 F7800\nM140 S60\nM104 S210\n;OBJECT 0 0\nG1 X0.200 Y0.000 F7800\nG1 F4800\nG1 X0.200 Y0.800 E0.02660\nG1 X0.600 Y0.800 F7800\nG1 F4800\nG1 X0.600 Y0.000 E0.02660\nM104 S0\nM140 S0\n\n4 s1 bye\nend 4 runs 0\n";
+
+// The command line's words.
+fn words(alloc: Global, words: &[&str]) -> Result<Vec<String>, Fail> {
+    let mut owned = Vec::new(alloc);
+    for word in words {
+        owned.push(format!(in alloc; "{word}")?)?;
+    }
+    Ok(owned)
+}
+
+// The box and these commands.
+fn with_box(alloc: Global, commands: &[u8]) -> Result<Text, Fail> {
+    let mut script = Text::copy_of(alloc, BOX)?;
+    script.append(commands)?;
+    Ok(script)
+}
+
+// The status of a run of this script, and what it wrote.
+fn run<R: Threads + Wait + Sync>(
+    rt: &R,
+    alloc: Global,
+    script: Text,
+    sink: &mut SteadySink,
+) -> Result<Status, Fail> {
+    let words = words(alloc, &["run"])?;
+    let mut source = SteadySource::new(script);
+    Ok(plater(rt, alloc, &words, &mut source, sink, &OpenGate))
+}
+
+#[test]
+fn scripts_give_their_transcripts(rt: HostRuntime) -> Result<(), Fail> {
+    let alloc = rt.alloc();
+    let table = [
+        (
+            with_box(alloc, b"1 load cube box\n1 apply\n1 export\n")?,
+            TRANSCRIPT,
+        ),
+        (
+            Text::copy_of(alloc, b"plater 1")?,
+            b"end 0 runs 0\n".as_slice(),
+        ),
+        (
+            Text::copy_of(alloc, b"plater 1\n1 export\n")?,
+            b"1 s1 export = refused Empty\n2 s1 bye\nend 2 runs 0\n".as_slice(),
+        ),
+        (
+            Text::copy_of(alloc, b"plater 1\ndata bad\nsolid x\n.end\n1 load a bad\n")?,
+            b"1 s1 load a bad = refused BadStl 0 BadToken\n2 s1 bye\nend 2 runs 0\n".as_slice(),
+        ),
+        (
+            with_box(alloc, b"1 load a box\n1 load b box\n1 apply\n1 apply")?,
+            b"1 s1 load a box = object 0\n2 s1 load b box = refused FullObjects\n3 s1 apply = changed\n4 s1 apply = unchanged\n5 s1 bye\nend 5 runs 0\n".as_slice(),
+        ),
+    ];
+    for (script, transcript) in table {
+        let mut sink = SteadySink::new(alloc);
+        assert!(rt; run(&rt, alloc, script, &mut sink)? == Status::Done);
+        assert!(rt; sink.held() == transcript);
+    }
+    Ok(())
+}
+
+#[test]
+fn another_form_is_refused_as_a_whole(rt: HostRuntime) -> Result<(), Fail> {
+    let table: [&[u8]; 9] = [
+        b"",
+        b"plater 7\n",
+        b"plater  1\n",
+        b"plater 1\n\n",
+        b"plater 1\n2 apply\n",
+        b"plater 1\n1 load a box\n",
+        b"plater 1\n1 apply \n",
+        b"plater 1\ndata a\nsolid\n",
+        b"plater 1\ndata a\n.end\ndata a\n.end\n",
+    ];
+    for script in &table {
+        let mut sink = SteadySink::new(rt.alloc());
+        let status = run(
+            &rt,
+            rt.alloc(),
+            Text::copy_of(rt.alloc(), script)?,
+            &mut sink,
+        )?;
+        let fault = TopFault::Script(ScriptFault::BadLine);
+        assert!(rt; status == Status::Refused { line: 0, fault });
+        assert!(rt; sink.held().is_empty());
+    }
+    Ok(())
+}
+
+#[test]
+fn other_words_are_usage(rt: HostRuntime) -> Result<(), Fail> {
+    let table: [&[&str]; 4] = [&[], &["run", "x"], &["--help"], &["Run"]];
+    for list in &table {
+        let words = words(rt.alloc(), list)?;
+        let mut source = SteadySource::new(Text::copy_of(rt.alloc(), b"plater 1\n")?);
+        let mut sink = SteadySink::new(rt.alloc());
+        assert!(rt;
+            plater(&rt, rt.alloc(), &words, &mut source, &mut sink, &OpenGate) == Status::Usage
+        );
+    }
+    Ok(())
+}
+
+#[test]
+fn a_failing_end_has_its_status(rt: HostRuntime) -> Result<(), Fail> {
+    let alloc = rt.alloc();
+    let words = words(alloc, &["run"])?;
+    let commands = b"1 load cube box\n1 apply\n1 export\n";
+
+    let mut sink = MemorySink::new(alloc, 64, Vec::from_slice(alloc, &[2])?);
+    let mut source = SteadySource::new(with_box(alloc, commands)?);
+    assert!(rt;
+        plater(&rt, alloc, &words, &mut source, &mut sink, &OpenGate) == Status::WriteFault
+    );
+    assert!(rt; TRANSCRIPT.starts_with(sink.held()));
+
+    let mut sink = SteadySink::new(alloc);
+    let mut source = MemorySource::new(
+        with_box(alloc, commands)?,
+        16,
+        Vec::from_slice(alloc, &[0])?,
+    );
+    assert!(rt; plater(&rt, alloc, &words, &mut source, &mut sink, &OpenGate) == Status::ReadFault);
+    assert!(rt; sink.held().is_empty());
+    Ok(())
+}
+
+#[test]
+fn a_status_has_its_number(rt: HostRuntime) {
+    let fault = TopFault::Script(ScriptFault::BadLine);
+    let table = [
+        (Status::Done, 0),
+        (Status::Usage, 2),
+        (Status::Refused { line: 0, fault }, 3),
+        (Status::ReadFault, 4),
+        (Status::WriteFault, 5),
+        (Status::NoMemory, 6),
+    ];
+    for (status, number) in &table {
+        assert_eq!(rt; status.code(), *number);
+    }
+}

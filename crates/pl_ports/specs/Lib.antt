@@ -1,0 +1,4 @@
+pub mod Causes
+pub mod Failing
+pub mod MemoryEnds
+pub mod Fronts

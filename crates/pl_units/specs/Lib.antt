@@ -1,0 +1,4 @@
+pub mod Decimal
+pub mod Micro
+pub mod Within
+pub mod Writes
