@@ -1,13 +1,12 @@
 -- The G-code of the box of two by two cells and two layers, computed from its full slices.
-use Rattle.std.specs.Prelude.{◌≡◌, ℕ, pos, ◌%◌, ◌==◌, true, false, List, [], ◌∷◌, ◌++◌, refl, slice_index_or, codes}
+use Rattle.std.specs.Prelude.{◌≡◌, pos, ◌%◌, ◌==◌, true, [], ◌∷◌, refl, codes}
 use Rattle.std.specs.declared.option.Option.TheVariants.{Some}
 use Rattle.std.specs.Fmt.{digits}
 use Rattle.pl_grid.specs.Extent.{Extent}
 use Rattle.pl_grid.specs.Planes.{Cells, plane_of, cells_of}
 use Rattle.pl_grid.specs.Strokes.{axis_of, strokes_of}
 use Rattle.pl_gcode.specs.Print.{Settings, Print}
-use Rattle.pl_gcode.specs.Paths.{line_of}
-use Rattle.pl_gcode.specs.Gcode.{origin, gcode_of, head_text, height_text}
+use Rattle.pl_gcode.specs.Gcode.{origin, head_text, height_text}
 
 abbrev two_by_two : Extent
 two_by_two = record { x0 = pos 0; y0 = pos 0; cols = 2; rows = 2 }

@@ -1,5 +1,5 @@
 -- The strokes of a plane lie near the origin and are short.
-use Rattle.std.proofs.Common.{◌≡◌, ◌≤ℤ◌, ℤ, ℕ, suc, pos, unsigned_abs, ◌+ℤ◌, ◌-ℤ◌, ◌*ℤ◌, ◌+◌, ◌-◌, ◌<◌, ◌≤◌, Bool, true, false, not, List, [], ◌∷◌, ◌++◌, length, map, reverse, drop, length-drop, get_or, arith, refl, cond}
+use Rattle.std.proofs.Common.{◌≡◌, ◌≤ℤ◌, ℤ, ℕ, suc, pos, unsigned_abs, ◌+ℤ◌, ◌-ℤ◌, ◌*ℤ◌, ◌+◌, ◌-◌, ◌<◌, ◌≤◌, Bool, true, false, not, List, [], ◌∷◌, length, map, reverse, drop, length-drop, get_or, arith, cond}
 use Rattle.std.specs.List.{All, range_with_len, filter, prefix_len}
 use Rattle.std.proofs.lemmas.Int.{ints}
 use Rattle.std.proofs.lemmas.List.Elements.{All-map, All-filter, All-append}
@@ -7,7 +7,7 @@ use Rattle.std.proofs.lemmas.List.FromFn.{length-range_with_len, get_or-range_wi
 use Rattle.std.proofs.lemmas.List.{get_or-reverse, length-reverse}
 use Rattle.std.proofs.lemmas.List.Sums.{prefix_len-le-length}
 use Rattle.pl_units.specs.Within.{Within}
-use Rattle.pl_grid.specs.Extent.{Extent, IsExtent}
+use Rattle.pl_grid.specs.Extent.{IsExtent}
 use Rattle.pl_grid.specs.Planes.{Cells, filled}
 use Rattle.pl_grid.specs.declared.stroke.Axis.{Axis}
 use Rattle.pl_grid.specs.declared.stroke.Axis.TheVariants.{Rows, Columns}

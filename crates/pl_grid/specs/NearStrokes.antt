@@ -1,5 +1,5 @@
 -- Strokes that lie in a box.
-use Rattle.std.specs.Prelude.{ℤ, ℕ, ◌≤◌, ◌+◌, ◌-ℤ◌, unsigned_abs}
+use Rattle.std.specs.Prelude.{◌≤◌, ◌+◌, ◌-ℤ◌, unsigned_abs}
 use Rattle.pl_units.specs.Within.{Within}
 use Rattle.pl_grid.specs.declared.stroke.Stroke.{Stroke}
 

@@ -5,16 +5,18 @@ use Rattle.pl_stl.specs.declared.fault.StlFault.{StlFault}
 use Rattle.pl_units.specs.declared.NoMemory.{NoMemory}
 use Rattle.pl_units.specs.declared.Refusal.{Refusal}
 use Rattle.pl_units.specs.declared.Refusal.TheVariants.{Fault}
-use Rattle.pl_stl.specs.Grammar.{IsMeshText}
+use Rattle.pl_narrow.specs.declared.fault.NarrowFault.{NarrowFault}
+use Rattle.pl_narrow.specs.Grammar.{IsMeshText}
 use Rattle.pl_script.specs.declared.script.Command.{Command}
 use Rattle.pl_script.specs.declared.script.Command.TheVariants.{Load, Apply, Export}
 use Rattle.pl_plater.specs.declared.entry.EditRefusal.{EditRefusal}
 use Rattle.pl_plater.specs.declared.entry.EditRefusal.TheVariants.{BadStl, FullObjects}
 use Rattle.pl_plater.specs.declared.entry.Reply.{Reply}
-use Rattle.pl_plater.specs.declared.entry.Reply.TheVariants.{Object, Refused, Unchanged, Changed, Gcode, Empty}
+use Rattle.pl_plater.specs.declared.entry.Reply.TheVariants.{Object, Refused, Unchanged, Changed, Gcode, NotPrinted}
 use Rattle.pl_plater.specs.declared.entry.Entry.{Entry}
 use Rattle.pl_plater.specs.declared.entry.Entry.TheVariants.{Call, Bye}
 use Rattle.pl_plater.specs.Plate.{plate_gcode}
+use Rattle.pl_plater.specs.Problem.{plate_problem}
 
 -- a plate: the mesh in its one place, where it is filled
 abbrev pub Plate : Type 0
@@ -40,8 +42,8 @@ Loads bytes plate (Refused FullObjects) plate' = HasMesh bytes × (plate ≢ Non
 Loads bytes plate _ plate' = ⊥
 
 -- what a load answers where its text was refused
-abbrev pub bad_mesh_reply : Refusal StlFault → Result Reply NoMemory
-bad_mesh_reply (Fault line fault) = Ok (Refused (BadStl line fault))
+abbrev pub bad_mesh_reply : Refusal NarrowFault → Result Reply NoMemory
+bad_mesh_reply (Fault line fault) = Ok (Refused (BadStl line StlFault.BadToken))
 bad_mesh_reply Refusal.NoMemory = Err (record {})
 
 abbrev pub Applies : Plate → Plate → Reply → Type 0
@@ -51,8 +53,8 @@ Applies edited applied _ = ⊥
 
 -- an export answers the G-code of the applied plate, or its problem
 abbrev pub Exports : Plate → Reply → Type 0
-Exports None Empty = Unit {0}
-Exports (Some mesh) (Gcode bytes) = bytes ≡ plate_gcode mesh
+Exports plate (NotPrinted problem) = plate_problem plate ≡ Some problem
+Exports (Some mesh) (Gcode bytes) = (plate_problem (Some mesh) ≡ None) × (bytes ≡ plate_gcode mesh)
 Exports _ _ = ⊥
 
 -- a command answers this and leads from the one state to the other

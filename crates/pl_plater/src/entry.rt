@@ -1,6 +1,7 @@
 //! What a history is made of.
 use pl_script::Command;
 use pl_stl::StlFault;
+use pl_tech::Problem;
 use pl_units::Text;
 use thiserror::Error;
 
@@ -26,8 +27,8 @@ pub enum Reply {
     Changed,
     /// The G-code of the applied plate.
     Gcode(Text),
-    /// Nothing is on the applied plate.
-    Empty,
+    /// The applied plate can't be printed.
+    NotPrinted(Problem),
 }
 
 /// One entry of a history of session 1.

@@ -19,7 +19,7 @@ use pl_units::{Digits, Nm, NoMemory, Text, append_pieces, to_micro};
 use std::alloc::Global;
 
 // The heights of this stage, which has no settings.
-fn heights() -> Heights
+pub(crate) fn heights() -> Heights
     ensures value { result ≡ fixed_heights }
     ensures range { AreHeights result }
 {

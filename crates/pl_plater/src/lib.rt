@@ -3,6 +3,7 @@
 
 pub mod entry;
 mod gcode;
+mod problem;
 mod run;
 mod state;
 pub mod status;

@@ -1,12 +1,15 @@
 //! The machine of this stage.
-ghost use Rattle.std.specs.Prelude.{◌≡◌, ◌≤◌, ◌^◌, false, length, IfOk, OnErr};
+ghost use Rattle.std.specs.Prelude.{◌≡◌, ◌≤◌, ◌^◌, false, length, Some, IfOk, OnErr};
 ghost use Rattle.pl_script.specs.Script.{IsShortCommand};
 ghost use Rattle.pl_plater.specs.Machine.{Step, Loads, Applies, Exports, blank, bad_mesh_reply};
 
 use crate::entry::{EditRefusal, Entry, Reply};
 use crate::gcode::gcode;
+use crate::problem::mesh_problem;
+use pl_narrow::{NarrowFault, read_stl};
 use pl_script::{Block, Command};
-use pl_stl::{Mesh, StlFault, read_stl};
+use pl_stl::{Mesh, StlFault};
+use pl_tech::Problem;
 use pl_units::{NoMemory, Refusal, Shared};
 use std::alloc::Global;
 use std::marker::Model;
@@ -98,8 +101,8 @@ impl State {
         ensures { IfOk result (λ reply. Exports self.now.applied reply) }
     {
         match &self.applied {
-            Some(mesh) => Ok(Reply::Gcode(gcode(alloc, mesh.get())?)),
-            None => Ok(Reply::Empty),
+            Some(mesh) => export_mesh(alloc, mesh.get()),
+            None => Ok(Reply::NotPrinted(Problem::Empty)),
         }
     }
 
@@ -110,6 +113,16 @@ impl State {
     {
         self.left = true;
     }
+}
+
+// The G-code of a plate with this mesh, or its problem.
+fn export_mesh(alloc: Global, mesh: &Mesh) -> Result<Reply, NoMemory>
+    ensures { IfOk result (λ reply. Exports (Some mesh.now) reply) }
+{
+    if let Some(problem) = mesh_problem(mesh) {
+        return Ok(Reply::NotPrinted(problem));
+    }
+    Ok(Reply::Gcode(gcode(alloc, mesh)?))
 }
 
 // One more owner of the mesh of a plate.
@@ -123,11 +136,14 @@ fn copied(plate: &Option<Shared<Mesh>>) -> Result<Option<Shared<Mesh>>, NoMemory
 }
 
 // The reply to a load of a text that is no mesh.
-fn bad_mesh(refusal: &Refusal<StlFault>) -> Result<Reply, NoMemory>
+fn bad_mesh(refusal: &Refusal<NarrowFault>) -> Result<Reply, NoMemory>
     ensures { result ≡ bad_mesh_reply refusal.now }
 {
     match refusal {
-        Refusal::Fault { line, fault } => Ok(Reply::Refused(EditRefusal::BadStl(*line, *fault))),
+        Refusal::Fault { line, .. } => Ok(Reply::Refused(EditRefusal::BadStl(
+            *line,
+            StlFault::BadToken,
+        ))),
         Refusal::NoMemory => Err(NoMemory),
     }
 }

@@ -1,14 +1,15 @@
 //! Writing a history.
-ghost use Rattle.std.specs.Prelude.{◌≡◌, ◌≤◌, ◌++◌, IfOk, OnOk};
+ghost use Rattle.std.specs.Prelude.{◌≡◌, ◌≤◌, ◌++◌, codes, IfOk, OnOk};
 ghost use Rattle.std.specs.Fmt.{decimal};
 ghost use Rattle.std.specs.Io.KnownBytes.{Appends};
 ghost use Rattle.pl_ports.specs.Causes.{Rose, AppendsFront};
-ghost use Rattle.pl_plater.specs.Transcript.{command_text, refusal_text, stl_fault_text, reply_text, entry_text, end_text, transcript};
+ghost use Rattle.pl_plater.specs.Transcript.{command_text, refusal_text, stl_fault_text, problem_text, reply_text, entry_text, end_text, transcript};
 
 use crate::entry::{EditRefusal, Entry, Reply};
 use pl_ports::{Sink, SinkStop, put_all};
 use pl_script::Command;
 use pl_stl::StlFault;
+use pl_tech::Problem;
 use pl_units::{Digits, NoMemory, Text, append_pieces};
 use std::alloc::Global;
 
@@ -32,6 +33,11 @@ fn stl_fault_word(fault: &StlFault) -> &'static [u8]
 {
     match fault {
         StlFault::BadToken => b"BadToken",
+        StlFault::BadNumber => b"BadNumber",
+        StlFault::TooFar => b"TooFar",
+        StlFault::TooManyFacets => b"TooManyFacets",
+        StlFault::Cut => b"Cut",
+        StlFault::NoFacet => b"NoFacet",
     }
 }
 
@@ -53,6 +59,41 @@ fn put_refusal(out: &mut Text, refusal: &EditRefusal) -> Result<(), NoMemory>
     }
 }
 
+// Appends two numbers after a text, with a space between them.
+fn put_pair_after(out: &mut Text, before: &[u8], first: u64, second: u64) -> Result<(), NoMemory>
+    ensures { OnOk result (out.new ≡ out.old ++ (before.now ++ decimal first ++ codes " " ++ decimal second)) }
+{
+    append_pieces(
+        out,
+        &[
+            before,
+            Digits::whole(first).bytes(),
+            b" ",
+            Digits::whole(second).bytes(),
+        ],
+    )
+}
+
+// Appends a problem.
+fn put_problem(out: &mut Text, problem: &Problem) -> Result<(), NoMemory>
+    ensures { OnOk result (out.new ≡ out.old ++ problem_text problem.now) }
+{
+    match problem {
+        Problem::Empty => out.append(b"refused Empty"),
+        Problem::OutOfBed(place, instance) => {
+            put_pair_after(
+                out,
+                b"refused OutOfBed ",
+                u64::from(*place),
+                u64::from(*instance),
+            )
+        }
+        Problem::TooManyCells(place) => {
+            put_number_after(out, b"refused TooManyCells ", u64::from(*place), b"")
+        }
+    }
+}
+
 // Appends a reply.
 fn put_reply(out: &mut Text, reply: &Reply) -> Result<(), NoMemory>
     ensures { OnOk result (out.new ≡ out.old ++ reply_text reply.now) }
@@ -66,7 +107,7 @@ fn put_reply(out: &mut Text, reply: &Reply) -> Result<(), NoMemory>
             put_number_after(out, b"gcode ", bytes.bytes().len() as u64, b"\n")?;
             out.append(bytes.bytes())
         }
-        Reply::Empty => out.append(b"refused Empty"),
+        Reply::NotPrinted(problem) => put_problem(out, problem),
     }
 }
 

@@ -1,60 +1,50 @@
--- What may follow at each place, as the grammar says it, and what a word makes of it.
-use Rattle.std.proofs.Common.{◌≡◌, ◌==◌, ◌+◌, ◌<◌, ◌≤◌, ℕ, Bool, true, false, List, [], ◌∷◌, length, drop, refl, ap, sym, ◌∙◌, arith, cond, Ok, Option, Some, None, ◌⊎◌, inl, inr, get_or}
-use Rattle.std.specs.Prelude.{codes, ◌&&◌, nat_lt, slice_get}
+-- What may follow at each place, as the grammar says it, and what a token makes of it.
+use Rattle.std.proofs.Common.{◌≡◌, ◌==◌, ◌+◌, ◌<◌, ◌≤◌, ℕ, suc, Bool, true, false, List, [], ◌∷◌, ◌++◌, length, drop, refl, ap, sym, ◌∙◌, arith, cond, subst, Ok, Err, Result, Option, Some, None, ◌⊎◌, inl, inr, get_or}
+use Rattle.std.specs.Prelude.{codes, nat_lt, slice_get}
 use Rattle.std.proofs.lemmas.List.{drop_more}
 use Rattle.std.proofs.lemmas.Option.{slice_get_within, get_or_from_slice_get, slice_get-get_or}
-use Rattle.std.proofs.lemmas.Bool.{ltb-true, lt-ltb, eqb-true, eqb-false}
+use Rattle.std.proofs.lemmas.Bool.{ltb-true, eqb-true, eqb-false}
 use Rattle.std.proofs.lemmas.Slice.Eq.{bytes_eq-Decides}
+use Rattle.std.specs.Str.{str_to_ascii_lowercase}
 use Rattle.pl_units.specs.declared.Nm.{Nm}
+use Rattle.pl_units.specs.declared.numeral.NumberFault.{NumberFault}
+use Rattle.pl_units.specs.Lengths.{length_of}
 use Rattle.pl_stl.specs.declared.mesh.Facet.{Facet}
+use Rattle.pl_stl.specs.declared.fault.StlFault.{StlFault}
 use Rattle.pl_stl.specs.declared.form.Class.{Class}
 use Rattle.pl_stl.specs.declared.form.Class.TheVariants as class
 use Rattle.pl_stl.specs.declared.form.Keyword.TheVariants as key
-use Rattle.pl_stl.specs.declared.form.Keyword.{Keyword}
 use Rattle.pl_stl.specs.declared.form.Place.{Place}
 use Rattle.pl_stl.specs.declared.form.Place.TheVariants as at
-use Rattle.pl_stl.specs.Coordinate.{coordinate}
-use Rattle.pl_stl.specs.Grammar.{IsBody, facet, end}
-use Rattle.pl_stl.specs.Reading.{text, is_keyword, form, blank, shifted, with_coordinate, taken, taken_at, at_facets, inside, step}
+use Rattle.pl_stl.specs.Tokens.{Token}
+use Rattle.pl_stl.specs.Form.{text, is_keyword, form}
+use Rattle.pl_stl.specs.Grammar.{IsKeyword, beyond, Fits, done, any, keyword, coordinate, corners, IsText, solid, IsBody, facet, end}
+use Rattle.pl_stl.specs.Reading.{blank, shifted, with_coordinate, taken, taken_at, at_solid, at_facet, inside, step}
 
--- Words of these classes and then more of a body, with its facets, where the first one has some coordinates.
-abbrev pub Within : List Class → Facet → List (List ℕ) → List Facet → Type 0
-Within [] f ws [] = ⊥
-Within [] f ws (g ∷ gs) = (g ≡ f) × IsBody ws gs
+-- Tokens of these classes and then more of a body, with its facets, where the first one has some coordinates.
+abbrev pub Within : List Class → Facet → List Token → List Facet → Type 0
+Within [] f ts [] = ⊥
+Within [] f ts (g ∷ gs) = (g ≡ f) × IsBody ts gs
 Within (c ∷ cs) f [] gs = ⊥
-Within (class.Any ∷ cs) f (w ∷ ws) gs = Within cs f ws gs
-Within (class.Keyword k ∷ cs) f (w ∷ ws) gs = (w ≡ text k) × Within cs f ws gs
-Within (class.Coordinate ∷ cs) f (w ∷ ws) gs = (n : Nm) × (coordinate w ≡ Some n) × Within cs (shifted f n) ws gs
-
-abbrev pub Named : List (List ℕ) → List Facet → Type 0
-Named [] gs = ⊥
-Named (name ∷ ws) gs = IsBody ws gs
-
-abbrev pub Ends : List (List ℕ) → List Facet → Type 0
-Ends [] gs = ⊥
-Ends (name ∷ ws) gs = (ws ≡ []) × (gs ≡ [])
-
-abbrev pub Titled : List (List ℕ) → List Facet → Type 0
-Titled [] gs = ⊥
-Titled (w ∷ ws) gs = (w ≡ codes "solid") × Named ws gs
+Within (class.Any ∷ cs) f (t ∷ ts) gs = Within cs f ts gs
+Within (class.Keyword k ∷ cs) f (t ∷ ts) gs = IsKeyword t k × Within cs f ts gs
+Within (class.Coordinate ∷ cs) f (t ∷ ts) gs = (n : Nm) × (length_of t.word ≡ Ok n) × Within cs (shifted f n) ts gs
 
 -- what may follow at a place, with its facets
-abbrev pub Rest : Place → List (List ℕ) → List Facet → Type 0
-Rest at.Solid ws gs = Titled ws gs
-Rest at.Title ws gs = Named ws gs
-Rest at.Facets ws gs = IsBody ws gs
-Rest (at.Inside count f) ws gs = (count < 20) × Within (drop count form) f ws gs
-Rest at.Tail ws gs = Ends ws gs
-Rest at.Done ws gs = (ws ≡ []) × (gs ≡ [])
+abbrev pub Rest : Place → List Token → List Facet → Type 0
+Rest at.Outside ts gs = IsText ts gs
+Rest (at.Title title) ts gs = IsBody (beyond title ts) gs
+Rest at.Facets ts gs = IsBody ts gs
+Rest (at.Inside count f) ts gs = (count < 20) × Within (drop count form) f ts gs
+Rest (at.Tail tail) ts gs = IsText (beyond tail ts) gs
 
 -- how many facets may stand before a place
 abbrev pub Stands : Place → ℕ → Type 0
-Stands at.Solid found = found ≤ 300000
-Stands at.Title found = found ≤ 300000
+Stands at.Outside found = found ≤ 300000
+Stands (at.Title title) found = found ≤ 300000
 Stands at.Facets found = found ≤ 300000
-Stands (at.Inside count f) found = found < 300000
-Stands at.Tail found = (1 ≤ found) × (found ≤ 300000)
-Stands at.Done found = (1 ≤ found) × (found ≤ 300000)
+Stands (at.Inside count f) found = (count < 20) × (found < 300000)
+Stands (at.Tail tail) found = found ≤ 300000
 
 abbrev pub Move : Type 0
 Move = Place × Option Facet
@@ -72,73 +62,139 @@ pub chosen : {A : Type 0} (b : Bool) (x y z : A) → cond b x y ≡ z → ((b �
 chosen true x y z e = inl (refl, e)
 chosen false x y z e = inr (refl, e)
 
-pub both : (a b : Bool) → (a && b) ≡ true → (a ≡ true) × (b ≡ true)
-both true b e = (refl, e)
-both false b e = absurd (cc e)
+pub not_both : (b : Bool) → b ≡ true → b ≡ false → ⊥
+not_both b t f = cc
 
-pub keyword_is : (word : List ℕ) (k : Keyword) → is_keyword word k ≡ true → word ≡ text k
-keyword_is word k e = (bytes_eq-Decides word (text k)).0 e
+pub only_one : (t : Token) → IsKeyword t key.Facet → IsKeyword t key.EndSolid → ⊥
+only_one t a b =
+    let x = (bytes_eq-Decides (str_to_ascii_lowercase t.word) (str_to_ascii_lowercase (codes "facet"))).0 a in
+    let y = (bytes_eq-Decides (str_to_ascii_lowercase t.word) (str_to_ascii_lowercase (codes "endsolid"))).0 b in
+    let five : length (str_to_ascii_lowercase t.word) ≡ 5 = ap length x in
+    let eight : length (str_to_ascii_lowercase t.word) ≡ 8 = ap length y in
+    absurd (omega (arith, five, eight))
 
-pub is_itself : (word : List ℕ) (k : Keyword) → word ≡ text k → is_keyword word k ≡ true
-is_itself word k e = (bytes_eq-Decides word (text k)).1 e
+-- The tokens of a facet, all at once and one by one.
 
--- A word of the first class, and the words after it.
+abbrev pub shift_all : Facet → List Nm → Facet
+shift_all f [] = f
+shift_all f (n ∷ ns) = shift_all (shifted f n) ns
 
-pub on_word : (c : Class) (cs : List Class) (f : Facet) (w : List ℕ) (ws : List (List ℕ)) (gs : List Facet) → Within (c ∷ cs) f (w ∷ ws) gs → (g : Facet) × (taken c f w ≡ Some g) × Within cs g ws gs
-on_word class.Any cs f w ws gs h = (f, refl, h)
-on_word (class.Keyword k) cs f w ws gs (e, h) = (f, rw (is_itself w k e) refl, h)
-on_word class.Coordinate cs f w ws gs (n, e, h) = (shifted f n, rw e refl, h)
+pub within_of : {cs : List Class} {ts : List Token} {ns : List Nm} (f g : Facet) (rest : List Token) (gs : List Facet) → Fits cs ts ns → g ≡ shift_all f ns → IsBody rest gs → Within cs f (ts ++ rest) (g ∷ gs)
+within_of f g rest gs done e body = (e, body)
+within_of f g rest gs (any t h) e body = within_of f g rest gs h e body
+within_of f g rest gs (keyword t k is h) e body = (is, within_of f g rest gs h e body)
+within_of f g rest gs (coordinate t n is h) e body = (n, is, within_of (shifted f n) g rest gs h e body)
 
-pub of_coordinate : (f g : Facet) (read : Option Nm) → with_coordinate f read ≡ Some g → (n : Nm) × (read ≡ Some n) × (g ≡ shifted f n)
-of_coordinate f g None e = absurd (cc e)
-of_coordinate f g (Some n) e = (n, refl, cc)
+pub record Found (cs : List Class) (f : Facet) (ws : List Token) (gs : List Facet) : Type 0 where
+  pub ts : List Token
+  pub rest : List Token
+  pub ns : List Nm
+  pub g : Facet
+  pub hs : List Facet
+  pub split : ws ≡ ts ++ rest
+  pub all : gs ≡ g ∷ hs
+  pub fits : Fits cs ts ns
+  pub is : g ≡ shift_all f ns
+  pub body : IsBody rest hs
 
-pub of_word : (c : Class) (cs : List Class) (f g : Facet) (w : List ℕ) (ws : List (List ℕ)) (gs : List Facet) → taken c f w ≡ Some g → Within cs g ws gs → Within (c ∷ cs) f (w ∷ ws) gs
-of_word class.Any cs f g w ws gs e h = let same : g ≡ f = cc in rw same at h
-of_word (class.Keyword k) cs f g w ws gs e h =
-    elim (chosen (is_keyword w k) _ _ _ e) [
-      | inl c ↦ let same : g ≡ f = cc in (keyword_is w k c.0, rw same at h)
+pub found : (cs : List Class) (f : Facet) (ws : List Token) (gs : List Facet) → Within cs f ws gs → Found cs f ws gs
+found [] f ws [] h = absurd h
+found [] f ws (g ∷ gs) h = record { ts = []; rest = ws; ns = []; g = g; hs = gs; split = refl; all = refl; fits = done; is = h.0; body = h.1 }
+found (c ∷ cs) f [] gs h = absurd h
+found (class.Any ∷ cs) f (t ∷ ws) gs h =
+    let r = found cs f ws gs h in
+    record { ts = t ∷ r.ts; rest = r.rest; ns = r.ns; g = r.g; hs = r.hs; split = ap (λ l. t ∷ l) r.split; all = r.all; fits = any t r.fits; is = r.is; body = r.body }
+found (class.Keyword k ∷ cs) f (t ∷ ws) gs h =
+    let r = found cs f ws gs h.1 in
+    record { ts = t ∷ r.ts; rest = r.rest; ns = r.ns; g = r.g; hs = r.hs; split = ap (λ l. t ∷ l) r.split; all = r.all; fits = keyword t k h.0 r.fits; is = r.is; body = r.body }
+found (class.Coordinate ∷ cs) f (t ∷ ws) gs h =
+    let r = found cs (shifted f h.0) ws gs h.2 in
+    record { ts = t ∷ r.ts; rest = r.rest; ns = h.0 ∷ r.ns; g = r.g; hs = r.hs; split = ap (λ l. t ∷ l) r.split; all = r.all; fits = coordinate t h.0 h.1 r.fits; is = r.is; body = r.body }
+
+abbrev pub coordinates : List Class → ℕ
+coordinates [] = 0
+coordinates (class.Any ∷ cs) = coordinates cs
+coordinates (class.Keyword k ∷ cs) = coordinates cs
+coordinates (class.Coordinate ∷ cs) = suc (coordinates cs)
+
+pub fits_count : {cs : List Class} {ts : List Token} {ns : List Nm} → Fits cs ts ns → length ns ≡ coordinates cs
+fits_count done = refl
+fits_count (any t h) = fits_count h
+fits_count (keyword t k is h) = fits_count h
+fits_count (coordinate t n is h) = ap suc (fits_count h)
+
+pub nine : (ns : List Nm) → length ns ≡ 9 → corners (shift_all blank ns) ≡ ns
+nine [] e = absurd (omega (arith, e))
+nine (a ∷ []) e = absurd (omega (arith, e))
+nine (a ∷ b ∷ []) e = absurd (omega (arith, e))
+nine (a ∷ b ∷ c ∷ []) e = absurd (omega (arith, e))
+nine (a ∷ b ∷ c ∷ d ∷ []) e = absurd (omega (arith, e))
+nine (a ∷ b ∷ c ∷ d ∷ k ∷ []) e = absurd (omega (arith, e))
+nine (a ∷ b ∷ c ∷ d ∷ k ∷ l ∷ []) e = absurd (omega (arith, e))
+nine (a ∷ b ∷ c ∷ d ∷ k ∷ l ∷ m ∷ []) e = absurd (omega (arith, e))
+nine (a ∷ b ∷ c ∷ d ∷ k ∷ l ∷ m ∷ n ∷ []) e = absurd (omega (arith, e))
+nine (a ∷ b ∷ c ∷ d ∷ k ∷ l ∷ m ∷ n ∷ o ∷ []) e = refl
+nine (a ∷ b ∷ c ∷ d ∷ k ∷ l ∷ m ∷ n ∷ o ∷ p ∷ ns) e = absurd (omega (arith, e))
+
+pub body_facet : (t : Token) (ts : List Token) (gs : List Facet) → IsKeyword t key.Facet → Within form blank ts gs → IsBody (t ∷ ts) gs
+body_facet t ts gs k h =
+    let r = found form blank ts gs h in
+    let same : corners r.g ≡ r.ns = ap corners r.is ∙ nine r.ns (fits_count r.fits) in
+    let fits : Fits form r.ts (corners r.g) = subst (λ (ns : List Nm). Fits form r.ts ns) (sym same) r.fits in
+    let made : IsBody (t ∷ (r.ts ++ r.rest)) (r.g ∷ r.hs) = facet t r.ts r.g k fits r.body in
+    let named : IsBody (t ∷ (r.ts ++ r.rest)) gs = subst (λ (hs : List Facet). IsBody (t ∷ (r.ts ++ r.rest)) hs) (sym r.all) made in
+    subst (λ (ws : List Token). IsBody (t ∷ ws) gs) (sym r.split) named
+
+-- A text and a body by their first token.
+
+pub text_cases : {t : Token} {ts : List Token} {gs : List Facet} → IsText (t ∷ ts) gs → IsKeyword t key.Solid × IsBody (beyond t.line ts) gs
+text_cases (solid t k body) = (k, body)
+
+pub body_cases : {t : Token} {ts : List Token} {gs : List Facet} → IsBody (t ∷ ts) gs → (IsKeyword t key.Facet × Within form blank ts gs) ⊎ (IsKeyword t key.EndSolid × IsText (beyond t.line ts) gs)
+body_cases (facet t ts f {rest} {fs} k fits body) = inl (k, within_of blank f rest fs fits refl body)
+body_cases (end t k text) = inr (k, text)
+
+pub some_within : (cs : List Class) (f : Facet) (ts : List Token) (gs : List Facet) → Within cs f ts gs → 1 ≤ length gs
+some_within [] f ts [] h = absurd h
+some_within [] f ts (g ∷ gs) h = omega arith
+some_within (c ∷ cs) f [] gs h = absurd h
+some_within (class.Any ∷ cs) f (t ∷ ts) gs h = some_within cs f ts gs h
+some_within (class.Keyword k ∷ cs) f (t ∷ ts) gs h = some_within cs f ts gs h.1
+some_within (class.Coordinate ∷ cs) f (t ∷ ts) gs h = some_within cs (shifted f h.0) ts gs h.2
+
+-- A token of the first class, and the tokens after it.
+
+pub can_take : (c : Class) (cs : List Class) (f : Facet) (t : Token) (ts : List Token) (gs : List Facet) → Within (c ∷ cs) f (t ∷ ts) gs → (g : Facet) × (taken c f t.word ≡ Ok g)
+can_take class.Any cs f t ts gs h = (f, refl)
+can_take (class.Keyword k) cs f t ts gs h = (f, rw h.0 refl)
+can_take class.Coordinate cs f t ts gs h = (shifted f h.0, ap (λ r. with_coordinate f r) h.1)
+
+pub on_word : (c : Class) (cs : List Class) (f g : Facet) (t : Token) (ts : List Token) (gs : List Facet) → taken c f t.word ≡ Ok g → Within (c ∷ cs) f (t ∷ ts) gs → Within cs g ts gs
+on_word class.Any cs f g t ts gs e h = let same : g ≡ f = cc in rw same h
+on_word (class.Keyword k) cs f g t ts gs e h =
+    elim (chosen (is_keyword t.word k) _ _ _ e) [
+      | inl c ↦ let same : g ≡ f = cc in rw same h.1
+      | inr c ↦ absurd (not_both (is_keyword t.word k) h.0 c.0)
+    ]
+on_word class.Coordinate cs f g t ts gs e h =
+    let other : with_coordinate f (length_of t.word) ≡ Ok (shifted f h.0) = ap (λ r. with_coordinate f r) h.1 in
+    let same : g ≡ shifted f h.0 = cc in
+    rw same h.2
+
+pub of_coordinate : (f g : Facet) (read : Result Nm NumberFault) → with_coordinate f read ≡ Ok g → (n : Nm) × (read ≡ Ok n) × (g ≡ shifted f n)
+of_coordinate f g (Err fault) e = absurd (cc e)
+of_coordinate f g (Ok n) e = (n, refl, cc)
+
+pub of_word : (c : Class) (cs : List Class) (f g : Facet) (t : Token) (ts : List Token) (gs : List Facet) → taken c f t.word ≡ Ok g → Within cs g ts gs → Within (c ∷ cs) f (t ∷ ts) gs
+of_word class.Any cs f g t ts gs e h = let same : g ≡ f = cc in rw same at h
+of_word (class.Keyword k) cs f g t ts gs e h =
+    elim (chosen (is_keyword t.word k) _ _ _ e) [
+      | inl c ↦ let same : g ≡ f = cc in (c.0, rw same at h)
       | inr c ↦ absurd (cc c.1)
     ]
-of_word class.Coordinate cs f g w ws gs e h =
-    let n = of_coordinate f g (coordinate w) e in
+of_word class.Coordinate cs f g t ts gs e h =
+    let n = of_coordinate f g (length_of t.word) e in
     (n.0, n.1, rw n.2 at h)
-
--- A body by its first word.
-
-pub body_cases : {w : List ℕ} {ws : List (List ℕ)} {gs : List Facet} → IsBody (w ∷ ws) gs → ((w ≡ codes "facet") × Within form blank ws gs) ⊎ ((w ≡ codes "endsolid") × Ends ws gs)
-body_cases (facet nx ny nz ax ay az bx by bz cx cy cz f iax iay iaz ibx iby ibz icx icy icz body) =
-    inl (refl, (refl, (refl, (refl, (refl, (f.a.x, iax, (f.a.y, iay, (f.a.z, iaz, (refl, (f.b.x, ibx, (f.b.y, iby, (f.b.z, ibz, (refl, (f.c.x, icx, (f.c.y, icy, (f.c.z, icz, (refl, (refl, (refl, body)))))))))))))))))))
-body_cases (end name) = inr (refl, (refl, refl))
-
-pub body_end : (ws : List (List ℕ)) (gs : List Facet) → Ends ws gs → IsBody (codes "endsolid" ∷ ws) gs
-body_end [] gs h = absurd h
-body_end (name ∷ ws) gs (e, none) = rw (e, none) (end name)
-
-pub body_facet : (ws : List (List ℕ)) (gs : List Facet) → Within form blank ws gs → IsBody (codes "facet" ∷ ws) gs
-body_facet [] gs h = absurd h
-body_facet (_ ∷ []) gs h = absurd h.1
-body_facet (_ ∷ _ ∷ []) gs h = absurd h.1
-body_facet (_ ∷ _ ∷ _ ∷ []) gs h = absurd h.1
-body_facet (_ ∷ _ ∷ _ ∷ _ ∷ []) gs h = absurd h.1
-body_facet (_ ∷ _ ∷ _ ∷ _ ∷ _ ∷ []) gs h = absurd h.1.1
-body_facet (_ ∷ _ ∷ _ ∷ _ ∷ _ ∷ _ ∷ []) gs h = absurd h.1.1.1
-body_facet (_ ∷ _ ∷ _ ∷ _ ∷ _ ∷ _ ∷ _ ∷ []) gs h = absurd h.1.1.1.1
-body_facet (_ ∷ _ ∷ _ ∷ _ ∷ _ ∷ _ ∷ _ ∷ _ ∷ []) gs h = absurd h.1.1.1.1.2
-body_facet (_ ∷ _ ∷ _ ∷ _ ∷ _ ∷ _ ∷ _ ∷ _ ∷ _ ∷ []) gs h = absurd h.1.1.1.1.2.2
-body_facet (_ ∷ _ ∷ _ ∷ _ ∷ _ ∷ _ ∷ _ ∷ _ ∷ _ ∷ _ ∷ []) gs h = absurd h.1.1.1.1.2.2.2
-body_facet (_ ∷ _ ∷ _ ∷ _ ∷ _ ∷ _ ∷ _ ∷ _ ∷ _ ∷ _ ∷ _ ∷ []) gs h = absurd h.1.1.1.1.2.2.2.1
-body_facet (_ ∷ _ ∷ _ ∷ _ ∷ _ ∷ _ ∷ _ ∷ _ ∷ _ ∷ _ ∷ _ ∷ _ ∷ []) gs h = absurd h.1.1.1.1.2.2.2.1.2
-body_facet (_ ∷ _ ∷ _ ∷ _ ∷ _ ∷ _ ∷ _ ∷ _ ∷ _ ∷ _ ∷ _ ∷ _ ∷ _ ∷ []) gs h = absurd h.1.1.1.1.2.2.2.1.2.2
-body_facet (_ ∷ _ ∷ _ ∷ _ ∷ _ ∷ _ ∷ _ ∷ _ ∷ _ ∷ _ ∷ _ ∷ _ ∷ _ ∷ _ ∷ []) gs h = absurd h.1.1.1.1.2.2.2.1.2.2.2
-body_facet (_ ∷ _ ∷ _ ∷ _ ∷ _ ∷ _ ∷ _ ∷ _ ∷ _ ∷ _ ∷ _ ∷ _ ∷ _ ∷ _ ∷ _ ∷ []) gs h = absurd h.1.1.1.1.2.2.2.1.2.2.2.1
-body_facet (_ ∷ _ ∷ _ ∷ _ ∷ _ ∷ _ ∷ _ ∷ _ ∷ _ ∷ _ ∷ _ ∷ _ ∷ _ ∷ _ ∷ _ ∷ _ ∷ []) gs h = absurd h.1.1.1.1.2.2.2.1.2.2.2.1.2
-body_facet (_ ∷ _ ∷ _ ∷ _ ∷ _ ∷ _ ∷ _ ∷ _ ∷ _ ∷ _ ∷ _ ∷ _ ∷ _ ∷ _ ∷ _ ∷ _ ∷ _ ∷ []) gs h = absurd h.1.1.1.1.2.2.2.1.2.2.2.1.2.2
-body_facet (_ ∷ _ ∷ _ ∷ _ ∷ _ ∷ _ ∷ _ ∷ _ ∷ _ ∷ _ ∷ _ ∷ _ ∷ _ ∷ _ ∷ _ ∷ _ ∷ _ ∷ _ ∷ []) gs h = absurd h.1.1.1.1.2.2.2.1.2.2.2.1.2.2.2
-body_facet (_ ∷ _ ∷ _ ∷ _ ∷ _ ∷ _ ∷ _ ∷ _ ∷ _ ∷ _ ∷ _ ∷ _ ∷ _ ∷ _ ∷ _ ∷ _ ∷ _ ∷ _ ∷ _ ∷ []) gs h = absurd h.1.1.1.1.2.2.2.1.2.2.2.1.2.2.2.1
-body_facet (_ ∷ _ ∷ _ ∷ _ ∷ _ ∷ _ ∷ _ ∷ _ ∷ _ ∷ _ ∷ _ ∷ _ ∷ _ ∷ _ ∷ _ ∷ _ ∷ _ ∷ _ ∷ _ ∷ _ ∷ ws) [] h = absurd h.1.1.1.1.2.2.2.1.2.2.2.1.2.2.2.1.1
-body_facet (w1 ∷ w2 ∷ w3 ∷ w4 ∷ w5 ∷ w6 ∷ w7 ∷ w8 ∷ w9 ∷ w10 ∷ w11 ∷ w12 ∷ w13 ∷ w14 ∷ w15 ∷ w16 ∷ w17 ∷ w18 ∷ w19 ∷ w20 ∷ ws) (g ∷ gs) (e1, (e5, (e6, (e7, (n8, c8, (n9, c9, (n10, c10, (e11, (n12, c12, (n13, c13, (n14, c14, (e15, (n16, c16, (n17, c17, (n18, c18, (e19, (e20, (same, body)))))))))))))))))) =
-    rw (e1, e5, e6, e7, e11, e15, e19, e20) (facet w2 w3 w4 w8 w9 w10 w12 w13 w14 w16 w17 w18 g (c8 ∙ ap (λ (f : Facet). Some f.a.x) (sym same)) (c9 ∙ ap (λ (f : Facet). Some f.a.y) (sym same)) (c10 ∙ ap (λ (f : Facet). Some f.a.z) (sym same)) (c12 ∙ ap (λ (f : Facet). Some f.b.x) (sym same)) (c13 ∙ ap (λ (f : Facet). Some f.b.y) (sym same)) (c14 ∙ ap (λ (f : Facet). Some f.b.z) (sym same)) (c16 ∙ ap (λ (f : Facet). Some f.c.x) (sym same)) (c17 ∙ ap (λ (f : Facet). Some f.c.y) (sym same)) (c18 ∙ ap (λ (f : Facet). Some f.c.z) (sym same)) body)
 
 -- The place behind so many words of a facet.
 
@@ -150,116 +206,103 @@ left count c e =
 pub class_left : (count : ℕ) → count < 20 → (c : Class) × (slice_get form count ≡ Some c)
 class_left count h = (get_or form count class.Any, slice_get-get_or form count class.Any h)
 
--- What a word that may stand makes of a place.
-pub record Goes (place : Place) (found : ℕ) (w : List ℕ) (p : Move) : Type 0 where
-  pub stands : Stands place found → Stands p.0 (more p.1 found)
-  pub rest : (ws : List (List ℕ)) (gs : List Facet) → Rest p.0 ws gs → Rest place (w ∷ ws) (facets p.1 gs)
+pub last_word : (count : ℕ) (g : Facet) (ts : List Token) (gs : List Facet) → count + 1 ≡ 20 → Within (drop (count + 1) form) g ts gs → (hs : List Facet) × (gs ≡ g ∷ hs) × IsBody ts hs
+last_word count g ts [] last h = let none : Within [] g ts [] = rw last at h in absurd none
+last_word count g ts (f ∷ gs) last h = let is : Within [] g ts (f ∷ gs) = rw last at h in (gs, ap (λ d. d ∷ gs) is.0, is.1)
 
-pub goes_solid : (found : ℕ) (w : List ℕ) (p : Move) → step at.Solid found w ≡ Ok p → Goes at.Solid found w p
-goes_solid found w p e =
-    elim (chosen (is_keyword w key.Solid) _ _ _ e) [
-      | inl c ↦ let q : p ≡ (at.Title, None) = cc in rw q (record { stands = λ h. h; rest = λ ws gs h. (keyword_is w key.Solid c.0, h) })
+-- What a token that may stand makes of a place.
+pub record Goes (place : Place) (found : ℕ) (t : Token) (p : Move) : Type 0 where
+  pub stands : Stands place found → Stands p.0 (more p.1 found)
+  pub back : (ts : List Token) (gs : List Facet) → Rest p.0 ts gs → Rest place (t ∷ ts) (facets p.1 gs)
+  pub on : (ts : List Token) (gs : List Facet) → Rest place (t ∷ ts) gs → (hs : List Facet) × (gs ≡ facets p.1 hs) × Rest p.0 ts hs
+
+pub goes_solid : (found : ℕ) (t : Token) (p : Move) → at_solid t.word t.line ≡ Ok p → Goes at.Outside found t p
+goes_solid found t p e =
+    elim (chosen (is_keyword t.word key.Solid) _ _ _ e) [
+      | inl c ↦ let q : p ≡ (at.Title t.line, None) = cc in rw q (record { stands = λ h. h; back = λ ts gs h. solid t c.0 h; on = λ ts gs h. (gs, refl, (text_cases h).1) })
       | inr c ↦ absurd (cc c.1)
     ]
 
-pub goes_facet : (found : ℕ) (w : List ℕ) (p : Move) → at_facets found w ≡ Ok p → Goes at.Facets found w p
-goes_facet found w p e =
-    elim (chosen (is_keyword w key.Facet && nat_lt found 300000) _ _ _ e) [
-      | inl c ↦
-          let b = both (is_keyword w key.Facet) (nat_lt found 300000) c.0 in
-          let q : p ≡ (at.Inside 0 blank, None) = cc in
-          rw (q, keyword_is w key.Facet b.0) (record { stands = λ h. ltb-true found 300000 b.1; rest = λ ws gs h. body_facet ws gs h.1 })
-      | inr c ↦ elim (chosen (is_keyword w key.EndSolid && nat_lt 0 found) _ _ _ c.1) [
+pub on_facet : (t : Token) (ts : List Token) (gs : List Facet) → IsKeyword t key.Facet → IsBody (t ∷ ts) gs → Within form blank ts gs
+on_facet t ts gs k h =
+    elim (body_cases h) [
+      | inl c ↦ c.1
+      | inr c ↦ absurd (only_one t k c.0)
+    ]
+
+pub on_end : (t : Token) (ts : List Token) (gs : List Facet) → IsKeyword t key.EndSolid → IsBody (t ∷ ts) gs → IsText (beyond t.line ts) gs
+on_end t ts gs k h =
+    elim (body_cases h) [
+      | inl c ↦ absurd (only_one t c.0 k)
+      | inr c ↦ c.1
+    ]
+
+pub goes_facet : (found : ℕ) (t : Token) (p : Move) → at_facet found t.word t.line ≡ Ok p → Goes at.Facets found t p
+goes_facet found t p e =
+    elim (chosen (is_keyword t.word key.Facet) _ _ _ e) [
+      | inl c ↦ elim (chosen (nat_lt found 300000) _ _ _ c.1) [
         | inl d ↦
-            let b = both (is_keyword w key.EndSolid) (nat_lt 0 found) d.0 in
-            let q : p ≡ (at.Tail, None) = cc in
-            let some = ltb-true 0 found b.1 in
-            rw (q, keyword_is w key.EndSolid b.0) (record { stands = λ h. (omega (arith, some), h); rest = λ ws gs h. body_end ws gs h })
+            let q : p ≡ (at.Inside 0 blank, None) = cc in
+            rw q (record { stands = λ h. (omega arith, ltb-true found 300000 d.0); back = λ ts gs h. body_facet t ts gs c.0 h.1; on = λ ts gs h. (gs, refl, (omega arith, on_facet t ts gs c.0 h)) })
+        | inr d ↦ absurd (cc d.1)
+      ]
+      | inr c ↦ elim (chosen (is_keyword t.word key.EndSolid) _ _ _ c.1) [
+        | inl d ↦
+            let q : p ≡ (at.Tail t.line, None) = cc in
+            rw q (record { stands = λ h. h; back = λ ts gs h. end t d.0 h; on = λ ts gs h. (gs, refl, on_end t ts gs d.0 h) })
         | inr d ↦ absurd (cc d.1)
       ]
     ]
 
-pub goes_taken : (count found : ℕ) (f : Facet) (w : List ℕ) (c : Class) (p : Move) → slice_get form count ≡ Some c → (t : Option Facet) → taken c f w ≡ t → inside (count + 1) t ≡ Ok p → Goes (at.Inside count f) found w p
-goes_taken count found f w c p is None t e = absurd (cc e)
-goes_taken count found f w c p is (Some g) t e =
+pub goes_taken : (count found : ℕ) (f g : Facet) (t : Token) (c : Class) (p : Move) → slice_get form count ≡ Some c → taken c f t.word ≡ Ok g → inside (count + 1) (Ok g) ≡ Ok p → Goes (at.Inside count f) found t p
+goes_taken count found f g t c p is k e =
     let l = left count c is in
     elim (chosen (count + 1 == 20) _ _ _ e) [
       | inl d ↦
           let q : p ≡ (at.Facets, Some g) = cc in
           let last : count + 1 ≡ 20 = eqb-true (count + 1) 20 d.0 in
-          rw q (record { stands = λ h. omega (arith, h); rest = λ ws gs h. (l.0, rw l.1 (of_word c (drop (count + 1) form) f g w ws (g ∷ gs) t (rw last (refl, h)))) })
+          rw q (record {
+            stands = λ h. omega (arith, h.1);
+            back = λ ts gs h. (l.0, rw l.1 (of_word c (drop (count + 1) form) f g t ts (g ∷ gs) k (rw last (refl, h))));
+            on = λ ts gs h. last_word count g ts gs last (on_word c (drop (count + 1) form) f g t ts gs k (rw l.1 at h.1));
+          })
       | inr d ↦
           let q : p ≡ (at.Inside (count + 1) g, None) = cc in
-          rw q (record { stands = λ h. h; rest = λ ws gs h. (l.0, rw l.1 (of_word c (drop (count + 1) form) f g w ws gs t h.1)) })
+          let small : count + 1 < 20 = omega (arith, l.0, eqb-false (count + 1) 20 d.0) in
+          rw q (record {
+            stands = λ h. (small, h.1);
+            back = λ ts gs h. (l.0, rw l.1 (of_word c (drop (count + 1) form) f g t ts gs k h.1));
+            on = λ ts gs h. (gs, refl, (small, on_word c (drop (count + 1) form) f g t ts gs k (rw l.1 at h.1)));
+          })
     ]
 
-pub goes_inside : (count found : ℕ) (f : Facet) (w : List ℕ) (p : Move) → (o : Option Class) → slice_get form count ≡ o → inside (count + 1) (taken_at o f w) ≡ Ok p → Goes (at.Inside count f) found w p
-goes_inside count found f w p None is e = absurd (cc e)
-goes_inside count found f w p (Some c) is e = goes_taken count found f w c p is (taken c f w) refl e
+pub goes_read : (count found : ℕ) (f : Facet) (t : Token) (c : Class) (p : Move) → slice_get form count ≡ Some c → (r : Result Facet StlFault) → taken c f t.word ≡ r → inside (count + 1) r ≡ Ok p → Goes (at.Inside count f) found t p
+goes_read count found f t c p is (Err fault) k e = absurd (cc e)
+goes_read count found f t c p is (Ok g) k e = goes_taken count found f g t c p is k e
 
-pub goes : (place : Place) (found : ℕ) (w : List ℕ) (p : Move) → step place found w ≡ Ok p → Goes place found w p
-goes at.Solid found w p e = goes_solid found w p e
-goes at.Title found w p e = let q : p ≡ (at.Facets, None) = cc in rw q (record { stands = λ h. h; rest = λ ws gs h. h })
-goes at.Facets found w p e = goes_facet found w p e
-goes (at.Inside count f) found w p e = goes_inside count found f w p (slice_get form count) refl e
-goes at.Tail found w p e = let q : p ≡ (at.Done, None) = cc in rw q (record { stands = λ h. h; rest = λ ws gs h. h })
-goes at.Done found w p e = absurd (cc e)
+pub goes_inside : (count found : ℕ) (f : Facet) (t : Token) (p : Move) → (o : Option Class) → slice_get form count ≡ o → inside (count + 1) (taken_at o f t.word) ≡ Ok p → Goes (at.Inside count f) found t p
+goes_inside count found f t p None is e = absurd (cc e)
+goes_inside count found f t p (Some c) is e = goes_read count found f t c p is (taken c f t.word) refl e
 
--- A word of a text may stand.
-pub record Comes (place : Place) (found : ℕ) (w : List ℕ) (ws : List (List ℕ)) (gs : List Facet) : Type 0 where
-  pub p : Move
-  pub hs : List Facet
-  pub is : step place found w ≡ Ok p
-  pub split : gs ≡ facets p.1 hs
-  pub rest : Rest p.0 ws hs
-
-pub some_within : (cs : List Class) (f : Facet) (ws : List (List ℕ)) (gs : List Facet) → Within cs f ws gs → 1 ≤ length gs
-some_within [] f ws [] h = absurd h
-some_within [] f ws (g ∷ gs) h = omega arith
-some_within (c ∷ cs) f [] gs h = absurd h
-some_within (class.Any ∷ cs) f (w ∷ ws) gs h = some_within cs f ws gs h
-some_within (class.Keyword k ∷ cs) f (w ∷ ws) gs h = some_within cs f ws gs h.1
-some_within (class.Coordinate ∷ cs) f (w ∷ ws) gs h = some_within cs (shifted f h.0) ws gs h.2
-
-pub ends_none : (ws : List (List ℕ)) (gs : List Facet) → Ends ws gs → gs ≡ []
-ends_none [] gs h = absurd h
-ends_none (name ∷ ws) gs h = h.1
-
-pub comes_facet : (found : ℕ) (w : List ℕ) (ws : List (List ℕ)) (gs : List Facet) → 1 ≤ found + length gs → found + length gs ≤ 300000 → IsBody (w ∷ ws) gs → Comes at.Facets found w ws gs
-comes_facet found w ws gs some few h =
-    elim (body_cases h) [
+pub goes : (place : Place) (found : ℕ) (t : Token) (p : Move) → step place found t.word t.line ≡ Ok p → Goes place found t p
+goes at.Outside found t p e = goes_solid found t p e
+goes (at.Title title) found t p e =
+    elim (chosen (title == t.line) _ _ _ e) [
       | inl c ↦
-          let room : nat_lt found 300000 ≡ true = lt-ltb found 300000 (omega (arith, some_within form blank ws gs c.1, few)) in
-          record { p = (at.Inside 0 blank, None); hs = gs; is = rw (c.0, room) refl; split = refl; rest = (omega arith, c.1) }
+          let q : p ≡ (at.Title title, None) = cc in
+          rw q (record { stands = λ h. h; back = λ ts gs h. rw c.0 h; on = λ ts gs h. (gs, refl, rw c.0 at h) })
       | inr c ↦
-          let none = ends_none ws gs c.1 in
-          let full : nat_lt 0 found ≡ true = lt-ltb 0 found (omega (arith, some, ap length none)) in
-          record { p = (at.Tail, None); hs = gs; is = rw (c.0, full) refl; split = refl; rest = c.1 }
+          let g = goes_facet found t p c.1 in
+          record { stands = g.stands; back = λ ts gs h. rw c.0 (g.back ts gs h); on = λ ts gs h. g.on ts gs (rw c.0 at h) }
     ]
-
-pub comes_last : (count : ℕ) (g : Facet) (ws : List (List ℕ)) (gs : List Facet) → count + 1 ≡ 20 → Within (drop (count + 1) form) g ws gs → (hs : List Facet) × (gs ≡ g ∷ hs) × IsBody ws hs
-comes_last count g ws [] last h = let no : Within [] g ws [] = rw last at h in absurd no
-comes_last count g ws (f ∷ gs) last h = let is : Within [] g ws (f ∷ gs) = rw last at h in (gs, ap (λ d. d ∷ gs) is.0, is.1)
-
-pub comes_counted : (count found : ℕ) (f g : Facet) (w : List ℕ) (ws : List (List ℕ)) (gs : List Facet) (c : Class) → count < 20 → slice_get form count ≡ Some c → taken c f w ≡ Some g → Within (drop (count + 1) form) g ws gs → (b : Bool) → count + 1 == 20 ≡ b → Comes (at.Inside count f) found w ws gs
-comes_counted count found f g w ws gs c small is t h true e =
-    let l = comes_last count g ws gs (eqb-true (count + 1) 20 e) h in
-    record { p = (at.Facets, Some g); hs = l.0; is = rw (is, t, e) refl; split = l.1; rest = l.2 }
-comes_counted count found f g w ws gs c small is t h false e =
-    let more : count + 1 < 20 = omega (arith, small, eqb-false (count + 1) 20 e) in
-    record { p = (at.Inside (count + 1) g, None); hs = gs; is = rw (is, t, e) refl; split = refl; rest = (more, h) }
-
-pub comes_inside : (count found : ℕ) (f : Facet) (w : List ℕ) (ws : List (List ℕ)) (gs : List Facet) → Rest (at.Inside count f) (w ∷ ws) gs → Comes (at.Inside count f) found w ws gs
-comes_inside count found f w ws gs (small, h) =
-    let c = class_left count small in
-    let l = left count c.0 c.1 in
-    let g = on_word c.0 (drop (count + 1) form) f w ws gs (rw l.1 at h) in
-    comes_counted count found f g.0 w ws gs c.0 small c.1 g.1 g.2 (count + 1 == 20) refl
-
-pub comes : (place : Place) (found : ℕ) (w : List ℕ) (ws : List (List ℕ)) (gs : List Facet) → 1 ≤ found + length gs → found + length gs ≤ 300000 → Rest place (w ∷ ws) gs → Comes place found w ws gs
-comes at.Solid found w ws gs some few h = record { p = (at.Title, None); hs = gs; is = rw (is_itself w key.Solid h.0) refl; split = refl; rest = h.1 }
-comes at.Title found w ws gs some few h = record { p = (at.Facets, None); hs = gs; is = refl; split = refl; rest = h }
-comes at.Facets found w ws gs some few h = comes_facet found w ws gs some few h
-comes (at.Inside count f) found w ws gs some few h = comes_inside count found f w ws gs h
-comes at.Tail found w ws gs some few h = record { p = (at.Done, None); hs = gs; is = refl; split = refl; rest = h }
-comes at.Done found w ws gs some few h = absurd (cc h.0)
+goes at.Facets found t p e = goes_facet found t p e
+goes (at.Inside count f) found t p e = goes_inside count found f t p (slice_get form count) refl e
+goes (at.Tail tail) found t p e =
+    elim (chosen (tail == t.line) _ _ _ e) [
+      | inl c ↦
+          let q : p ≡ (at.Tail tail, None) = cc in
+          rw q (record { stands = λ h. h; back = λ ts gs h. rw c.0 h; on = λ ts gs h. (gs, refl, rw c.0 at h) })
+      | inr c ↦
+          let g = goes_solid found t p c.1 in
+          record { stands = g.stands; back = λ ts gs h. rw c.0 (g.back ts gs h); on = λ ts gs h. g.on ts gs (rw c.0 at h) }
+    ]

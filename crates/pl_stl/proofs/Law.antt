@@ -1,25 +1,17 @@
 -- The reading against the grammar.
-use Rattle.std.proofs.Common.{◌≡◌, ◌+◌, ◌≤◌, ◌^◌, ℕ, List, [], ◌∷◌, ◌++◌, inl, inr, length, refl, ap, sym, ◌∙◌, arith, Ok, Err, Result, Option, Some, None, length-append, append_assoc, pos}
-use Rattle.std.specs.Prelude.{codes, nat_le, ◌&&◌, nat_lt, position, ◌==◌, ◌-◌, take, drop}
-use Rattle.std.specs.List.{All}
-use Rattle.std.proofs.lemmas.Int.{ints}
-use Rattle.std.proofs.lemmas.Bool.{leb-true}
+use Rattle.std.proofs.Common.{◌≡◌, ◌≤◌, ℕ, List, [], ◌∷◌, ◌++◌, length, refl, ap, sym, ◌∙◌, arith, subst, Ok, Err, Result, Option, Some, None, length-append, append_assoc}
+use Rattle.std.specs.Prelude.{codes}
 use Rattle.std.proofs.lemmas.List.{append-nil}
-use Rattle.std.proofs.lemmas.List.Elements.{All-cons, All-nil}
-use Rattle.pl_units.specs.declared.Nm.{Nm}
-use Rattle.pl_units.specs.declared.Refusal.{Refusal}
-use Rattle.pl_units.specs.declared.Refusal.TheVariants as refusals
-use Rattle.pl_units.specs.Within as size
 use Rattle.pl_stl.specs.declared.mesh.Facet.{Facet}
 use Rattle.pl_stl.specs.declared.fault.StlFault.{StlFault}
+use Rattle.pl_stl.specs.declared.fault.StlFault.TheVariants.{BadToken, Cut, NoFacet}
 use Rattle.pl_stl.specs.declared.form.Place.{Place}
 use Rattle.pl_stl.specs.declared.form.Place.TheVariants as at
-use Rattle.pl_stl.specs.Words.{words}
-use Rattle.pl_stl.specs.Coordinate.{coordinate, of_point, of_parts, nanometres, up_to_forty, digits_after}
-use Rattle.pl_stl.specs.Grammar.{IsBody, facet, end, IsMeshText}
-use Rattle.pl_stl.specs.Mesh.{IsNearFacet, IsMesh}
-use Rattle.pl_stl.specs.Reading.{State, step, added, moved, run, finished, bind, mesh_of, Refuses}
-use Rattle.pl_stl.proofs.Follows.{Rest, Stands, Move, more, facets, goes, comes, chosen, left, class_left}
+use Rattle.pl_stl.specs.Tokens.{Token, tokens, last_line}
+use Rattle.pl_stl.specs.Grammar.{IsText, empty, IsBody, Begins, BeginsAny, IsFault, bad_number, too_many, bad_token, Breaks, at_token, cut, no_facet}
+use Rattle.pl_stl.specs.Reading.{State, step, added, moved, run, finished, bind, mesh_of, Breach, breach}
+use Rattle.pl_stl.proofs.Follows.{Rest, Stands, Move, more, facets, Goes, goes, left, class_left}
+use Rattle.pl_stl.proofs.Stops.{token, follows, stops, kind, Kind, of_reading, of_many, of_token}
 
 abbrev state : Place → List Facet → State
 state place mesh = record { place = place; mesh = mesh }
@@ -32,40 +24,83 @@ pub added_facets : (mesh : List Facet) (o : Option Facet) (gs : List Facet) → 
 added_facets mesh None gs = refl
 added_facets mesh (Some f) gs = sym (append_assoc mesh (f ∷ []) gs)
 
--- What is read is a text.
+-- Tokens lead to a place: what may follow there is what may follow them.
+pub record Reached (before : List Token) (place : Place) (mesh : List Facet) : Type 0 where
+  pub into : (ts : List Token) (gs : List Facet) → Rest place ts gs → IsText (before ++ ts) (mesh ++ gs)
+  pub from : (ts : List Token) (fs : List Facet) → IsText (before ++ ts) fs → (gs : List Facet) × Rest place ts gs × (fs ≡ mesh ++ gs)
+  pub stands : Stands place (length mesh)
 
-pub record Reads (place : Place) (mesh : List Facet) (ws : List (List ℕ)) (fs : List Facet) : Type 0 where
-  pub gs : List Facet
-  pub rest : Rest place ws gs
-  pub all : fs ≡ mesh ++ gs
-  pub some : 1 ≤ length fs
-  pub few : length fs ≤ 300000
+pub reached_start : Reached [] at.Outside []
+reached_start = record { into = λ ts gs h. h; from = λ ts fs h. (fs, h, refl); stands = omega arith }
 
-pub end_reads : (place : Place) (mesh fs : List Facet) → Stands place (length mesh) → finished place mesh ≡ Ok fs → Reads place mesh [] fs
-end_reads at.Done mesh fs s e =
-    let same : fs ≡ mesh = cc in
-    record { gs = []; rest = (refl, refl); all = same ∙ sym (append-nil mesh); some = rw same s.0; few = rw same s.1 }
-end_reads at.Solid mesh fs s e = absurd (cc e)
-end_reads at.Title mesh fs s e = absurd (cc e)
-end_reads at.Facets mesh fs s e = absurd (cc e)
-end_reads (at.Inside count f) mesh fs s e = absurd (cc e)
-end_reads at.Tail mesh fs s e = absurd (cc e)
+pub reached_after : (before : List Token) (place : Place) (mesh : List Facet) (t : Token) (p : Move) → Reached before place mesh → step place (length mesh) t.word t.line ≡ Ok p → Reached (before ++ t ∷ []) p.0 (added mesh p.1)
+reached_after before place mesh t p r e = record { into = into; from = from; stands = rw (added_length mesh p.1) (g.stands r.stands) }
+  where
+    g : Goes place (length mesh) t p
+    g = goes place (length mesh) t p e
 
-abbrev Again : List (List ℕ) → List Facet → List Facet → Type 0
-Again ws mesh fs = (p : Move) → Stands p.0 (length (added mesh p.1)) → run (state p.0 (added mesh p.1)) ws ≡ Ok fs → Reads p.0 (added mesh p.1) ws fs
+    into : (ts : List Token) (gs : List Facet) → Rest p.0 ts gs → IsText ((before ++ t ∷ []) ++ ts) (added mesh p.1 ++ gs)
+    into ts gs h =
+        let all : IsText (before ++ t ∷ ts) (mesh ++ facets p.1 gs) = r.into (t ∷ ts) (facets p.1 gs) (g.back ts gs h) in
+        let with : IsText (before ++ t ∷ ts) (added mesh p.1 ++ gs) = rw (added_facets mesh p.1 gs) at all in
+        rw (append_assoc before (t ∷ []) ts) with
 
-pub word_reads : (w : List ℕ) (ws : List (List ℕ)) (place : Place) (mesh fs : List Facet) → Stands place (length mesh) → Again ws mesh fs → (n : Result Move StlFault) → step place (length mesh) w ≡ n → bind (moved mesh n) (λ s. run s ws) ≡ Ok fs → Reads place mesh (w ∷ ws) fs
-word_reads w ws place mesh fs s again (Ok p) is e =
-    let g = goes place (length mesh) w p is in
-    let r = again p (rw (added_length mesh p.1) (g.stands s)) e in
-    record { gs = facets p.1 r.gs; rest = g.rest ws r.gs r.rest; all = r.all ∙ sym (added_facets mesh p.1 r.gs); some = r.some; few = r.few }
-word_reads w ws place mesh fs s again (Err fault) is e = absurd (cc e)
+    from : (ts : List Token) (fs : List Facet) → IsText ((before ++ t ∷ []) ++ ts) fs → (gs : List Facet) × Rest p.0 ts gs × (fs ≡ added mesh p.1 ++ gs)
+    from ts fs h =
+        let f = r.from (t ∷ ts) fs (rw (append_assoc before (t ∷ []) ts) at h) in
+        let o = g.on ts f.0 f.1 in
+        (o.0, o.2, f.2 ∙ ap (λ l. mesh ++ l) o.1 ∙ added_facets mesh p.1 o.0)
 
-pub reads : (ws : List (List ℕ)) (place : Place) (mesh fs : List Facet) → Stands place (length mesh) → run (state place mesh) ws ≡ Ok fs → Reads place mesh ws fs
-reads [] place mesh fs s e = end_reads place mesh fs s e
-reads (w ∷ ws) place mesh fs s e = word_reads w ws place mesh fs s (λ p s' e'. reads ws p.0 (added mesh p.1) fs s' e') (step place (length mesh) w) refl e
+-- tokens that lead to a place begin a text
+pub begins : (before : List Token) (place : Place) (mesh : List Facet) → Reached before place mesh → Begins before
+begins before place mesh r =
+    let f = follows place (length mesh) r.stands in
+    (f.ts, mesh ++ f.gs, r.into f.ts f.gs f.rest, omega (arith, f.few, length-append mesh f.gs))
 
--- Each text is read.
+-- a token that may not stand at a place ends no beginning
+pub breaks : (before : List Token) (place : Place) (mesh : List Facet) (t : Token) (fault : StlFault) → Reached before place mesh → step place (length mesh) t.word t.line ≡ Err fault → Begins (before ++ t ∷ []) → ⊥
+breaks before place mesh t fault r e (rest, fs, text, few) =
+    let f = r.from (t ∷ rest) fs (rw (append_assoc before (t ∷ []) rest) at text) in
+    let s = stops place (length mesh) t fault rest f.0 e f.1 in
+    absurd (omega (arith, few, ap length f.2, length-append mesh f.0, s.0, s.1))
+
+-- nor any text, where the fault is no facet too many
+pub breaks_any : (before : List Token) (place : Place) (mesh : List Facet) (t : Token) → Reached before place mesh → step place (length mesh) t.word t.line ≡ Err BadToken → BeginsAny (before ++ t ∷ []) → ⊥
+breaks_any before place mesh t r e (rest, fs, text) =
+    let f = r.from (t ∷ rest) fs (rw (append_assoc before (t ∷ []) rest) at text) in
+    let s = stops place (length mesh) t BadToken rest f.0 e f.1 in
+    let other = s.2 in
+    cc
+
+pub fault_of : (before : List Token) (place : Place) (mesh : List Facet) (t : Token) (fault : StlFault) → Reached before place mesh → step place (length mesh) t.word t.line ≡ Err fault → Kind place (length mesh) t fault → IsFault before t fault
+fault_of before place mesh t fault r e (of_reading number p zero is) =
+    bad_number number (begins (before ++ token (codes "0") t.line ∷ []) p.0 (added mesh p.1) (reached_after before place mesh (token (codes "0") t.line) p r zero)) is
+fault_of before place mesh t fault r e (of_many zero ts gs rest) =
+    let all : IsText (before ++ t ∷ ts) (mesh ++ gs) = r.into (t ∷ ts) gs rest in
+    too_many (breaks before place mesh (token (codes "0") t.line) BadToken r zero) (ts, mesh ++ gs, rw (append_assoc before (t ∷ []) ts) all)
+fault_of before place mesh t fault r e (of_token zero) =
+    bad_token (breaks before place mesh (token (codes "0") t.line) BadToken r zero) (breaks_any before place mesh t r e)
+
+-- fewer tokens begin a text too
+pub begins_less : (xs ys : List Token) → Begins (xs ++ ys) → Begins xs
+begins_less xs ys (rest, fs, text, few) = (ys ++ rest, fs, rw (append_assoc xs ys rest) at text, few)
+
+pub begins_up_to : (ts before rest : List Token) (t : Token) → ts ≡ before ++ t ∷ rest → Begins ts → Begins (before ++ t ∷ [])
+begins_up_to ts before rest t e h =
+    let all : Begins (before ++ t ∷ rest) = subst Begins e h in
+    let same : before ++ t ∷ rest ≡ (before ++ t ∷ []) ++ rest = sym (append_assoc before (t ∷ []) rest) in
+    begins_less (before ++ t ∷ []) rest (subst Begins same all)
+
+pub text_begins : (ts : List Token) (fs : List Facet) → IsText ts fs → length fs ≤ 300000 → Begins ts
+text_begins ts fs text few = ([], fs, rw (append-nil ts) text, few)
+
+-- What reading gives means this of the tokens.
+abbrev pub Verdict : ℕ → List Token → Result (List Facet) Breach → Type 0
+Verdict last ts (Ok fs) = IsText ts fs × (1 ≤ length fs) × (length fs ≤ 300000) × ((gs : List Facet) → IsText ts gs → gs ≡ fs)
+Verdict last ts (Err (breach line fault)) = Breaks last ts line fault × ((gs : List Facet) → IsText ts gs → 1 ≤ length gs → length gs ≤ 300000 → ⊥)
+
+pub text_nil : {gs : List Facet} → IsText [] gs → gs ≡ []
+text_nil empty = refl
 
 pub body_nil : {gs : List Facet} → IsBody [] gs → ⊥
 body_nil h = elim h [ ]
@@ -75,94 +110,54 @@ within_nil count f gs (small, h) =
     let c = class_left count small in
     rw (left count c.0 c.1).1 at h
 
-pub end_read : (place : Place) (mesh gs : List Facet) → Rest place [] gs → finished place mesh ≡ Ok (mesh ++ gs)
-end_read at.Done mesh gs h = rw h.1 (ap (λ l. Ok l) (sym (append-nil mesh)))
-end_read at.Solid mesh gs h = absurd h
-end_read at.Title mesh gs h = absurd h
-end_read at.Facets mesh gs h = absurd (body_nil h)
-end_read (at.Inside count f) mesh gs h = absurd (within_nil count f gs h)
-end_read at.Tail mesh gs h = absurd h
+pub end_text : (ts : List Token) (mesh : List Facet) → IsText (ts ++ []) (mesh ++ []) → IsText ts mesh
+end_text ts mesh h = let a : IsText ts (mesh ++ []) = rw (append-nil ts) at h in rw (append-nil mesh) at a
 
-pub read : (ws : List (List ℕ)) (place : Place) (mesh gs : List Facet) → 1 ≤ length (mesh ++ gs) → length (mesh ++ gs) ≤ 300000 → Rest place ws gs → run (state place mesh) ws ≡ Ok (mesh ++ gs)
-read [] place mesh gs some few h = end_read place mesh gs h
-read (w ∷ ws) place mesh gs some few h =
-    let both = length-append mesh gs in
-    let g = comes place (length mesh) w ws gs (omega (arith, some, both)) (omega (arith, few, both)) h in
-    let same : mesh ++ gs ≡ added mesh g.p.1 ++ g.hs = ap (λ l. mesh ++ l) g.split ∙ added_facets mesh g.p.1 g.hs in
-    let again = read ws g.p.0 (added mesh g.p.1) g.hs (rw same at some) (rw same at few) g.rest in
-    rw g.is (again ∙ ap (λ l. Ok l) (sym same))
+pub same_end : (ts : List Token) (place : Place) (mesh gs : List Facet) → Reached ts place mesh → ((hs : List Facet) → Rest place [] hs → hs ≡ []) → IsText ts gs → gs ≡ mesh
+same_end ts place mesh gs r none text =
+    let f = r.from [] gs (rw (append-nil ts) text) in
+    f.2 ∙ ap (λ l. mesh ++ l) (none f.0 f.1) ∙ append-nil mesh
 
--- The texts of meshes are those that are read.
+pub whole_end : (last : ℕ) (ts : List Token) (place : Place) (m : Facet) (mesh : List Facet) → Reached ts place (m ∷ mesh) → Rest place [] [] → ((hs : List Facet) → Rest place [] hs → hs ≡ []) → length (m ∷ mesh) ≤ 300000 → Verdict last ts (Ok (m ∷ mesh))
+whole_end last ts place m mesh r rest none few = (end_text ts (m ∷ mesh) (r.into [] [] rest), omega arith, few, λ gs text. same_end ts place (m ∷ mesh) gs r none text)
 
-pub titled : (ws : List (List ℕ)) (gs : List Facet) → Rest at.Solid ws gs → (name : List ℕ) × (body : List (List ℕ)) × (ws ≡ codes "solid" ∷ name ∷ body) × IsBody body gs
-titled [] gs h = absurd h
-titled (w ∷ []) gs h = absurd h.1
-titled (w ∷ name ∷ body) gs h = (name, body, ap (λ v. v ∷ name ∷ body) h.0, h.1)
+pub bare_end : (last : ℕ) (ts : List Token) (place : Place) → Reached ts place [] → Rest place [] [] → ((hs : List Facet) → Rest place [] hs → hs ≡ []) → Verdict last ts (Err (breach last NoFacet))
+bare_end last ts place r rest none =
+    (no_facet (end_text ts [] (r.into [] [] rest)), λ gs text some few. (let e = same_end ts place [] gs r none text in absurd (omega (arith, some, ap length e))))
 
-pub is_text : (bytes : List ℕ) (fs : List Facet) → mesh_of bytes ≡ Ok fs → IsMeshText bytes fs
-is_text bytes fs e =
-    let r = reads (words bytes) at.Solid [] fs (omega arith) e in
-    let t = titled (words bytes) fs (rw (sym r.all) at r.rest) in
-    record { name = t.0; body = t.1; text = t.2; is_body = t.3; some = r.some; few = r.few }
+pub cut_end : (last : ℕ) (ts : List Token) (place : Place) (mesh : List Facet) → Reached ts place mesh → ((hs : List Facet) → Rest place [] hs → ⊥) → Verdict last ts (Err (breach last Cut))
+cut_end last ts place mesh r none = (cut (begins ts place mesh r) no_text, λ gs text some few. no_text gs text)
+  where
+    no_text : (gs : List Facet) → IsText ts gs → ⊥
+    no_text gs text = let f = r.from [] gs (rw (append-nil ts) text) in none f.0 f.1
 
-pub text_read : (bytes : List ℕ) (fs : List Facet) → IsMeshText bytes fs → mesh_of bytes ≡ Ok fs
-text_read bytes fs t =
-    let rest : Rest at.Solid (codes "solid" ∷ t.name ∷ t.body) fs = (refl, t.is_body) in
-    rw t.text (read (codes "solid" ∷ t.name ∷ t.body) at.Solid [] fs t.some t.few rest)
+pub end_judged : (last : ℕ) (ts : List Token) (place : Place) (mesh : List Facet) → Reached ts place mesh → Verdict last ts (finished last place mesh)
+end_judged last ts at.Outside [] r = bare_end last ts at.Outside r empty (λ hs h. text_nil h)
+end_judged last ts at.Outside (m ∷ mesh) r = whole_end last ts at.Outside m mesh r empty (λ hs h. text_nil h) r.stands
+end_judged last ts (at.Tail tail) [] r = bare_end last ts (at.Tail tail) r empty (λ hs h. text_nil h)
+end_judged last ts (at.Tail tail) (m ∷ mesh) r = whole_end last ts (at.Tail tail) m mesh r empty (λ hs h. text_nil h) r.stands
+end_judged last ts (at.Title title) mesh r = cut_end last ts (at.Title title) mesh r (λ hs h. body_nil h)
+end_judged last ts at.Facets mesh r = cut_end last ts at.Facets mesh r (λ hs h. body_nil h)
+end_judged last ts (at.Inside count f) mesh r = cut_end last ts (at.Inside count f) mesh r (λ hs h. within_nil count f hs h)
 
--- Each facet of a text is near.
+abbrev Again : ℕ → List Token → Token → List Token → List Facet → Type 0
+Again last before t ts mesh = (p : Move) → Reached (before ++ t ∷ []) p.0 (added mesh p.1) → Verdict last ((before ++ t ∷ []) ++ ts) (run last (state p.0 (added mesh p.1)) ts)
 
-pub near_up_to : (n : ℕ) (nm : Nm) → up_to_forty n ≡ Some nm → size.Within (10 ^ 9) nm.0
-near_up_to n nm e =
-    elim (chosen (nat_le n 40000000) _ _ _ e) [
-      | inl c ↦
-          let same : nm ≡ record { 0 = pos n } = cc in
-          let small : n ≤ 40000000 = leb-true n 40000000 c.0 in
-          rw same (record { low = omega (arith, ints, small); high = omega (arith, ints, small) })
-      | inr c ↦ absurd (cc c.1)
-    ]
+pub token_judged : (last : ℕ) (before : List Token) (t : Token) (ts : List Token) (place : Place) (mesh : List Facet) → Reached before place mesh → Again last before t ts mesh → (n : Result Move StlFault) → step place (length mesh) t.word t.line ≡ n → Verdict last (before ++ t ∷ ts) (bind (moved mesh t.line n) (λ s. run last s ts))
+token_judged last before t ts place mesh r again (Ok p) is =
+    let v = again p (reached_after before place mesh t p r is) in
+    subst (λ (l : List Token). Verdict last l (run last (state p.0 (added mesh p.1)) ts)) (append_assoc before (t ∷ []) ts) v
+token_judged last before t ts place mesh r again (Err fault) is =
+    let no = breaks before place mesh t fault r is in
+    (at_token before t ts fault refl (begins before place mesh r) no (fault_of before place mesh t fault r is (kind place (length mesh) t fault is)), λ gs text some few. no (begins_up_to (before ++ t ∷ ts) before ts t refl (text_begins (before ++ t ∷ ts) gs text few)))
 
-pub near_parts : (whole places : Option ℕ) (filling : ℕ) (nm : Nm) → nanometres whole places filling ≡ Some nm → size.Within (10 ^ 9) nm.0
-near_parts (Some whole) (Some places) filling nm e = near_up_to _ nm e
-near_parts None places filling nm e = absurd (cc e)
-near_parts (Some whole) None filling nm e = absurd (cc e)
+pub judged : (last : ℕ) (ts before : List Token) (place : Place) (mesh : List Facet) → Reached before place mesh → Verdict last (before ++ ts) (run last (state place mesh) ts)
+judged last [] before place mesh r = subst (λ (l : List Token). Verdict last l (finished last place mesh)) (sym (append-nil before)) (end_judged last before place mesh r)
+judged last (t ∷ ts) before place mesh r =
+    token_judged last before t ts place mesh r (λ p r'. judged last ts (before ++ t ∷ []) p.0 (added mesh p.1) r') (step place (length mesh) t.word t.line) refl
 
-pub near_digits : (whole places : List ℕ) (nm : Nm) → of_parts whole places ≡ Some nm → size.Within (10 ^ 9) nm.0
-near_digits whole places nm e =
-    elim (chosen (nat_lt 0 (length whole) && nat_le (length whole) 2 && nat_le (length places) 6) _ _ _ e) [
-      | inl c ↦ near_parts (digits_after 0 whole) (digits_after 0 places) (6 - length places) nm c.1
-      | inr c ↦ absurd (cc c.1)
-    ]
+pub verdict : (bytes : List ℕ) → Verdict (last_line bytes) (tokens bytes) (mesh_of bytes)
+verdict bytes = judged (last_line bytes) (tokens bytes) [] at.Outside [] reached_start
 
-pub near_point : (point : Option ℕ) (word : List ℕ) (nm : Nm) → of_point point word ≡ Some nm → size.Within (10 ^ 9) nm.0
-near_point None word nm e = near_digits word [] nm e
-near_point (Some at) word nm e =
-    elim (chosen (nat_lt (at + 1) (length word)) _ _ _ e) [
-      | inl c ↦ near_digits (take at word) (drop (at + 1) word) nm c.1
-      | inr c ↦ absurd (cc c.1)
-    ]
-
-pub near : (word : List ℕ) (nm : Nm) → coordinate word ≡ Some nm → size.Within (10 ^ 9) nm.0
-near word nm e = near_point (position (λ b. b == 46) word) word nm e
-
-pub near_body : {ws : List (List ℕ)} {fs : List Facet} → IsBody ws fs → All IsNearFacet fs
-near_body (end name) = All-nil IsNearFacet
-near_body (facet nx ny nz ax ay az bx by bz cx cy cz f {rest} {facets = gs} iax iay iaz ibx iby ibz icx icy icz body) =
-    All-cons IsNearFacet f gs (record {
-      a = record { x = near ax f.a.x iax; y = near ay f.a.y iay; z = near az f.a.z iaz };
-      b = record { x = near bx f.b.x ibx; y = near by f.b.y iby; z = near bz f.b.z ibz };
-      c = record { x = near cx f.c.x icx; y = near cy f.c.y icy; z = near cz f.c.z icz };
-    }) (near_body body)
-
-pub is_mesh : (bytes : List ℕ) (fs : List Facet) → IsMeshText bytes fs → IsMesh fs
-is_mesh bytes fs t = record { some = t.some; few = t.few; near = near_body t.is_body }
-
--- A text that is refused with a fault is none.
-
-pub refused : (bytes : List ℕ) (fs : List Facet) (fault : StlFault) → mesh_of bytes ≡ Err fault → IsMeshText bytes fs → ⊥
-refused bytes fs fault breach text = let whole = text_read bytes fs text in cc
-
-pub refuses_text : (bytes : List ℕ) (fs : List Facet) (line : ℕ) (fault : StlFault) (e : Refusal StlFault) → e ≡ refusals.Fault line fault → Refuses e (mesh_of bytes) → IsMeshText bytes fs → ⊥
-refuses_text bytes fs line fault e same h text =
-    let breach : Refuses (refusals.Fault line fault) (mesh_of bytes) = rw same at h in
-    refused bytes fs fault breach.1 text
+pub verdict_is : (bytes : List ℕ) (r : Result (List Facet) Breach) → mesh_of bytes ≡ r → Verdict (last_line bytes) (tokens bytes) r
+verdict_is bytes r e = subst (λ (r : Result (List Facet) Breach). Verdict (last_line bytes) (tokens bytes) r) e (verdict bytes)

@@ -1,3 +1,6 @@
 pub mod Scan
 pub mod Follows
+pub mod Stops
 pub mod Law
+pub mod Once
+pub mod Near

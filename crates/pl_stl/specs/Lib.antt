@@ -1,6 +1,6 @@
 pub mod Mesh
-pub mod Words
-pub mod Coordinate
+pub mod Tokens
+pub mod Form
 pub mod Grammar
 pub mod Reading
 pub mod Reader

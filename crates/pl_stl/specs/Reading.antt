@@ -1,40 +1,22 @@
 -- Reading by what may stand next.
-use Rattle.std.specs.Prelude.{◌≡◌, ◌==◌, nat_lt, ◌&&◌, ℕ, ◌+◌, Bool, List, [], ◌∷◌, ◌++◌, length, if◌then◌else◌, codes, Option, Some, None, Result, Ok, Err, pos, slice_get}
-use Rattle.std.specs.Str.{bytes_eq}
+use Rattle.std.specs.Prelude.{◌≡◌, ◌==◌, nat_lt, ℕ, ◌+◌, List, [], ◌∷◌, ◌++◌, length, if◌then◌else◌, Option, Some, None, Result, Ok, Err, pos, slice_get}
 use Rattle.pl_units.specs.declared.Nm.{Nm}
 use Rattle.pl_units.specs.declared.Refusal.{Refusal}
 use Rattle.pl_units.specs.declared.Refusal.TheVariants.{Fault, NoMemory}
+use Rattle.pl_units.specs.declared.numeral.NumberFault.{NumberFault}
+use Rattle.pl_units.specs.Lengths.{length_of}
 use Rattle.pl_stl.specs.declared.mesh.Point3.{Point3}
 use Rattle.pl_stl.specs.declared.mesh.Facet.{Facet}
 use Rattle.pl_stl.specs.declared.fault.StlFault.{StlFault}
-use Rattle.pl_stl.specs.declared.fault.StlFault.TheVariants.{BadToken}
-use Rattle.pl_stl.specs.declared.form.Keyword.{Keyword}
+use Rattle.pl_stl.specs.declared.fault.StlFault.TheVariants.{BadToken, TooManyFacets, Cut, NoFacet}
 use Rattle.pl_stl.specs.declared.form.Keyword.TheVariants as key
 use Rattle.pl_stl.specs.declared.form.Class.{Class}
 use Rattle.pl_stl.specs.declared.form.Class.TheVariants as class
 use Rattle.pl_stl.specs.declared.form.Place.{Place}
 use Rattle.pl_stl.specs.declared.form.Place.TheVariants as at
-use Rattle.pl_stl.specs.Words.{words}
-use Rattle.pl_stl.specs.Coordinate.{coordinate}
-
--- how a keyword is written
-abbrev pub text : Keyword → List ℕ
-text key.Solid = codes "solid"
-text key.Facet = codes "facet"
-text key.Normal = codes "normal"
-text key.Outer = codes "outer"
-text key.Loop = codes "loop"
-text key.Vertex = codes "vertex"
-text key.EndLoop = codes "endloop"
-text key.EndFacet = codes "endfacet"
-text key.EndSolid = codes "endsolid"
-
-abbrev pub is_keyword : List ℕ → Keyword → Bool
-is_keyword word k = bytes_eq word (text k)
-
--- the words of a facet after its first
-abbrev pub form : List Class
-form = class.Keyword key.Normal ∷ class.Any ∷ class.Any ∷ class.Any ∷ class.Keyword key.Outer ∷ class.Keyword key.Loop ∷ class.Keyword key.Vertex ∷ class.Coordinate ∷ class.Coordinate ∷ class.Coordinate ∷ class.Keyword key.Vertex ∷ class.Coordinate ∷ class.Coordinate ∷ class.Coordinate ∷ class.Keyword key.Vertex ∷ class.Coordinate ∷ class.Coordinate ∷ class.Coordinate ∷ class.Keyword key.EndLoop ∷ class.Keyword key.EndFacet ∷ []
+use Rattle.pl_stl.specs.Tokens.{Token, tokens, last_line}
+use Rattle.pl_stl.specs.Form.{is_keyword, form}
+use Rattle.pl_stl.specs.Grammar.{of_number}
 
 abbrev pub origin : Point3
 origin = record { x = record { 0 = pos 0 }; y = record { 0 = pos 0 }; z = record { 0 = pos 0 } }
@@ -51,42 +33,44 @@ shifted f n = record {
   c = record { x = f.c.y; y = f.c.z; z = n };
 }
 
-abbrev pub with_coordinate : Facet → Option Nm → Option Facet
-with_coordinate f None = None
-with_coordinate f (Some n) = Some (shifted f n)
+abbrev pub with_coordinate : Facet → Result Nm NumberFault → Result Facet StlFault
+with_coordinate f (Ok n) = Ok (shifted f n)
+with_coordinate f (Err fault) = Err (of_number fault)
 
 -- a facet after a word of a class, if it is one
-abbrev pub taken : Class → Facet → List ℕ → Option Facet
-taken class.Any f word = Some f
-taken (class.Keyword k) f word = if is_keyword word k then Some f else None
-taken class.Coordinate f word = with_coordinate f (coordinate word)
+abbrev pub taken : Class → Facet → List ℕ → Result Facet StlFault
+taken class.Any f word = Ok f
+taken (class.Keyword k) f word = if is_keyword word k then Ok f else Err BadToken
+taken class.Coordinate f word = with_coordinate f (length_of word)
 
 -- where a class is left
-abbrev pub taken_at : Option Class → Facet → List ℕ → Option Facet
-taken_at None f word = None
+abbrev pub taken_at : Option Class → Facet → List ℕ → Result Facet StlFault
+taken_at None f word = Err BadToken
 taken_at (Some c) f word = taken c f word
 
 abbrev pub Next : Type 0
 Next = Result (Place × Option Facet) StlFault
 
-abbrev pub at_facets : ℕ → List ℕ → Next
-at_facets found word =
-    if is_keyword word key.Facet && nat_lt found 300000 then Ok (at.Inside 0 blank, None)
-    else (if is_keyword word key.EndSolid && nat_lt 0 found then Ok (at.Tail, None) else Err BadToken)
+abbrev pub at_solid : List ℕ → ℕ → Next
+at_solid word line = if is_keyword word key.Solid then Ok (at.Title line, None) else Err BadToken
+
+abbrev pub at_facet : ℕ → List ℕ → ℕ → Next
+at_facet found word line =
+    if is_keyword word key.Facet then (if nat_lt found 300000 then Ok (at.Inside 0 blank, None) else Err TooManyFacets)
+    else (if is_keyword word key.EndSolid then Ok (at.Tail line, None) else Err BadToken)
 
 -- behind so many words of a facet
-abbrev pub inside : ℕ → Option Facet → Next
-inside count None = Err BadToken
-inside count (Some f) = if count == 20 then Ok (at.Facets, Some f) else Ok (at.Inside count f, None)
+abbrev pub inside : ℕ → Result Facet StlFault → Next
+inside count (Err fault) = Err fault
+inside count (Ok f) = if count == 20 then Ok (at.Facets, Some f) else Ok (at.Inside count f, None)
 
 -- What may stand after a word, and the facet that it ends.
-abbrev pub step : Place → ℕ → List ℕ → Next
-step at.Solid found word = if is_keyword word key.Solid then Ok (at.Title, None) else Err BadToken
-step at.Title found word = Ok (at.Facets, None)
-step at.Facets found word = at_facets found word
-step (at.Inside count f) found word = inside (count + 1) (taken_at (slice_get form count) f word)
-step at.Tail found word = Ok (at.Done, None)
-step at.Done found word = Err BadToken
+abbrev pub step : Place → ℕ → List ℕ → ℕ → Next
+step at.Outside found word line = at_solid word line
+step (at.Title title) found word line = if title == line then Ok (at.Title title, None) else at_facet found word line
+step at.Facets found word line = at_facet found word line
+step (at.Inside count f) found word line = inside (count + 1) (taken_at (slice_get form count) f word)
+step (at.Tail tail) found word line = if tail == line then Ok (at.Tail tail, None) else at_solid word line
 
 -- where the reader stands, and the facets so far
 pub record State : Type 0 where
@@ -94,47 +78,56 @@ pub record State : Type 0 where
   pub mesh : List Facet
 
 abbrev pub start : State
-start = record { place = at.Solid; mesh = [] }
+start = record { place = at.Outside; mesh = [] }
 
 abbrev pub added : List Facet → Option Facet → List Facet
 added mesh None = mesh
 added mesh (Some f) = mesh ++ f ∷ []
 
-abbrev pub moved : List Facet → Next → Result State StlFault
-moved mesh (Ok p) = Ok (record { place = p.0; mesh = added mesh p.1 })
-moved mesh (Err fault) = Err fault
+-- a fault and its line
+pub data Breach : Type 0 where
+  breach : ℕ → StlFault → Breach
 
--- the state after a word, or the fault
-abbrev pub after : State → List ℕ → Result State StlFault
-after s word = moved s.mesh (step s.place (length s.mesh) word)
+abbrev pub moved : List Facet → ℕ → Next → Result State Breach
+moved mesh line (Ok p) = Ok (record { place = p.0; mesh = added mesh p.1 })
+moved mesh line (Err fault) = Err (breach line fault)
 
--- the state after a word, where an empty one is none
-abbrev pub after_word : State → List ℕ → Result State StlFault
-after_word s [] = Ok s
-after_word s (b ∷ bs) = after s (b ∷ bs)
+-- the state after a token, or the breach
+abbrev pub after : State → Token → Result State Breach
+after s t = moved s.mesh t.line (step s.place (length s.mesh) t.word t.line)
+
+-- the state after a word at a line, where an empty one is none
+abbrev pub after_word : State → ℕ → List ℕ → Result State Breach
+after_word s line [] = Ok s
+after_word s line (b ∷ bs) = after s (record { word = b ∷ bs; line = line })
+
+abbrev pub some_facets : ℕ → List Facet → Result (List Facet) Breach
+some_facets last [] = Err (breach last NoFacet)
+some_facets last (f ∷ fs) = Ok (f ∷ fs)
 
 -- what the end of the text makes of a state
-abbrev pub finished : Place → List Facet → Result (List Facet) StlFault
-finished at.Done mesh = Ok mesh
-finished _ mesh = Err BadToken
+abbrev pub finished : ℕ → Place → List Facet → Result (List Facet) Breach
+finished last at.Outside mesh = some_facets last mesh
+finished last (at.Tail tail) mesh = some_facets last mesh
+finished last _ mesh = Err (breach last Cut)
 
 abbrev pub bind : {A B E : Type 0} → Result A E → (A → Result B E) → Result B E
 bind (Ok x) f = f x
 bind (Err e) f = Err e
 
--- the facets of words, on from a state
-abbrev pub run : State → List (List ℕ) → Result (List Facet) StlFault
-run s [] = finished s.place s.mesh
-run s (w ∷ ws) = bind (after s w) (λ s'. run s' ws)
+-- the facets of tokens, on from a state
+abbrev pub run : ℕ → State → List Token → Result (List Facet) Breach
+run last s [] = finished last s.place s.mesh
+run last s (t ∷ ts) = bind (after s t) (λ s'. run last s' ts)
 
-abbrev pub mesh_of : List ℕ → Result (List Facet) StlFault
-mesh_of bytes = run start (words bytes)
+abbrev pub mesh_of : List ℕ → Result (List Facet) Breach
+mesh_of bytes = run (last_line bytes) start (tokens bytes)
 
--- What a call returned is what reading gives, with line 0 for a fault, unless memory ran out.
-abbrev pub Refuses : {Y : Type 0} → Refusal StlFault → Result Y StlFault → Type 0
-Refuses (Fault line fault) read = (line ≡ 0) × (read ≡ Err fault)
+-- What a call returned is what reading gives, unless memory ran out.
+abbrev pub Refuses : {Y : Type 0} → Refusal StlFault → Result Y Breach → Type 0
+Refuses (Fault line fault) read = read ≡ Err (breach line fault)
 Refuses NoMemory read = Unit {0}
 
-abbrev pub Gives : {X Y : Type 0} → (X → Y) → Result X (Refusal StlFault) → Result Y StlFault → Type 0
+abbrev pub Gives : {X Y : Type 0} → (X → Y) → Result X (Refusal StlFault) → Result Y Breach → Type 0
 Gives view (Ok x) read = read ≡ Ok (view x)
 Gives view (Err e) read = Refuses e read

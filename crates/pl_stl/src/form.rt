@@ -1,11 +1,13 @@
 //! What may stand where in a mesh text.
-ghost use Rattle.std.specs.Prelude.{◌≡◌, ◌+◌, ℕ, slice_get};
-ghost use Rattle.pl_stl.specs.Reading.{text, is_keyword, form, blank, shifted, taken, taken_at, at_facets, inside, step};
+ghost use Rattle.std.specs.Prelude.{◌≡◌, ◌≤◌, ◌+◌, ◌^◌, ℕ, length, slice_get};
+ghost use Rattle.pl_units.specs.Lengths.{length_of};
+ghost use Rattle.pl_stl.specs.Form.{text, is_keyword, form};
+ghost use Rattle.pl_stl.specs.Grammar.{of_number};
+ghost use Rattle.pl_stl.specs.Reading.{blank, shifted, with_coordinate, taken, taken_at, at_solid, at_facet, inside, step};
 
-use crate::coordinate::read_coordinate;
 use crate::fault::StlFault;
 use crate::mesh::{Facet, Point3};
-use pl_units::Nm;
+use pl_units::{Nm, NumberFault, read_mm};
 
 /// The most facets of a mesh.
 pub const MOST_FACETS: usize = 300_000;
@@ -35,13 +37,16 @@ pub enum Class {
 /// What may stand next.
 #[derive(Clone, Copy)]
 pub enum Place {
-    Solid,
-    Title,
+    /// A `solid`.
+    Outside,
+    /// The rest of the line of a `solid`, and then what may stand among facets.
+    Title(u32),
+    /// A `facet` or an `endsolid`.
     Facets,
     /// Behind so many words after `facet`, with the coordinates so far.
     Inside(usize, Facet),
-    Tail,
-    Done,
+    /// The rest of the line of an `endsolid`, and then a `solid`.
+    Tail(u32),
 }
 
 /// The words of a facet after its first.
@@ -85,11 +90,11 @@ fn written(keyword: Keyword) -> &'static [u8]
     }
 }
 
-// Whether a word is a keyword.
+// Whether a word is a keyword, in letters of either case.
 fn is(word: &[u8], keyword: Keyword) -> bool
     ensures { result ≡ is_keyword word.now keyword }
 {
-    word == written(keyword)
+    word.eq_ignore_ascii_case(written(keyword))
 }
 
 // A facet with no coordinate read.
@@ -109,7 +114,7 @@ fn no_coordinates() -> Facet
 }
 
 // The last nine coordinates, where one comes after those of a facet.
-fn with_coordinate(facet: Facet, coordinate: Nm) -> Facet
+fn with_coordinate_last(facet: Facet, coordinate: Nm) -> Facet
     ensures { result ≡ shifted facet coordinate }
 {
     Facet {
@@ -131,15 +136,37 @@ fn with_coordinate(facet: Facet, coordinate: Nm) -> Facet
     }
 }
 
+// The fault of a word in a number's place.
+fn number_fault(fault: NumberFault) -> StlFault
+    ensures { result ≡ of_number fault }
+{
+    match fault {
+        NumberFault::BadNumber => StlFault::BadNumber,
+        NumberFault::TooFar => StlFault::TooFar,
+    }
+}
+
+// A facet after a word in a number's place.
+fn take_number(facet: Facet, word: &[u8]) -> Result<Facet, StlFault>
+    requires { length word.now ≤ 2 ^ 28 }
+    ensures { result ≡ with_coordinate facet (length_of word.now) }
+{
+    match read_mm(word) {
+        Ok(coordinate) => Ok(with_coordinate_last(facet, coordinate)),
+        Err(fault) => Err(number_fault(fault)),
+    }
+}
+
 // A facet after a word of a class, if it is one.
-fn take_word(class: Class, facet: Facet, word: &[u8]) -> Option<Facet>
+fn take_word(class: Class, facet: Facet, word: &[u8]) -> Result<Facet, StlFault>
+    requires { length word.now ≤ 2 ^ 28 }
     ensures { result ≡ taken class facet word.now }
 {
     match class {
-        Class::Any => Some(facet),
-        Class::Keyword(keyword) if is(word, keyword) => Some(facet),
-        Class::Keyword(_) => None,
-        Class::Coordinate => Some(with_coordinate(facet, read_coordinate(word)?)),
+        Class::Any => Ok(facet),
+        Class::Keyword(keyword) if is(word, keyword) => Ok(facet),
+        Class::Keyword(_) => Err(StlFault::BadToken),
+        Class::Coordinate => take_number(facet, word),
     }
 }
 
@@ -151,47 +178,73 @@ fn class_at(count: usize) -> Option<Class>
 }
 
 // A facet after the word behind so many of its own, if the word may stand there.
-fn take_next(count: usize, facet: Facet, word: &[u8]) -> Option<Facet>
+fn take_next(count: usize, facet: Facet, word: &[u8]) -> Result<Facet, StlFault>
+    requires { length word.now ≤ 2 ^ 28 }
     ensures { result ≡ taken_at (slice_get form count) facet word.now }
 {
-    take_word(class_at(count)?, facet, word)
+    match class_at(count) {
+        Some(class) => take_word(class, facet, word),
+        None => Err(StlFault::BadToken),
+    }
 }
 
 // What may stand next after a word inside a facet, and the facet that it ends.
 fn next_inside(count: usize, facet: Facet, word: &[u8]) -> Result<(Place, Option<Facet>), StlFault>
+    requires { length word.now ≤ 2 ^ 28 }
     ensures { result ≡ inside (count + 1) (taken_at (slice_get form count) facet word.now) }
 {
     match take_next(count, facet, word) {
-        None => Err(StlFault::BadToken),
-        Some(facet) if count + 1 == FORM.len() => Ok((Place::Facets, Some(facet))),
-        Some(facet) => Ok((Place::Inside(count + 1, facet), None)),
+        Err(fault) => Err(fault),
+        Ok(facet) if count + 1 == FORM.len() => Ok((Place::Facets, Some(facet))),
+        Ok(facet) => Ok((Place::Inside(count + 1, facet), None)),
     }
 }
 
-// What may stand next after a word where a facet may begin.
-fn next_facet(found: usize, word: &[u8]) -> Result<(Place, Option<Facet>), StlFault>
-    ensures { result ≡ at_facets found word.now }
+// What may stand next after a word at a line where a facet may begin.
+fn next_facet(found: usize, word: &[u8], line: u32) -> Result<(Place, Option<Facet>), StlFault>
+    ensures { result ≡ at_facet found word.now line }
 {
-    if is(word, Keyword::Facet) && found < MOST_FACETS {
-        Ok((Place::Inside(0, no_coordinates()), None))
-    } else if is(word, Keyword::EndSolid) && found > 0 {
-        Ok((Place::Tail, None))
+    if is(word, Keyword::Facet) {
+        if found < MOST_FACETS {
+            Ok((Place::Inside(0, no_coordinates()), None))
+        } else {
+            Err(StlFault::TooManyFacets)
+        }
+    } else if is(word, Keyword::EndSolid) {
+        Ok((Place::Tail(line), None))
     } else {
         Err(StlFault::BadToken)
     }
 }
 
-/// What may stand next after a word behind so many facets, and the facet that the word ends.
-/// `BadToken` for a word that may not stand there.
-pub fn next(place: Place, found: usize, word: &[u8]) -> Result<(Place, Option<Facet>), StlFault>
-    ensures { result ≡ step place found word.now }
+// What may stand next after a word at a line where a solid may begin.
+fn next_solid(word: &[u8], line: u32) -> Result<(Place, Option<Facet>), StlFault>
+    ensures { result ≡ at_solid word.now line }
+{
+    if is(word, Keyword::Solid) {
+        Ok((Place::Title(line), None))
+    } else {
+        Err(StlFault::BadToken)
+    }
+}
+
+/// What may stand next after a word at a line, behind so many facets, and the facet that the word ends. The fault
+/// of a word that may not stand there.
+pub fn next(
+    place: Place,
+    found: usize,
+    word: &[u8],
+    line: u32,
+) -> Result<(Place, Option<Facet>), StlFault>
+    requires { length word.now ≤ 2 ^ 28 }
+    ensures { result ≡ step place found word.now line }
 {
     match place {
-        Place::Solid if is(word, Keyword::Solid) => Ok((Place::Title, None)),
-        Place::Title => Ok((Place::Facets, None)),
-        Place::Facets => next_facet(found, word),
+        Place::Outside => next_solid(word, line),
+        Place::Title(title) if title == line => Ok((place, None)),
+        Place::Title(_) | Place::Facets => next_facet(found, word, line),
         Place::Inside(count, facet) => next_inside(count, facet, word),
-        Place::Tail => Ok((Place::Done, None)),
-        Place::Solid | Place::Done => Err(StlFault::BadToken),
+        Place::Tail(tail) if tail == line => Ok((place, None)),
+        Place::Tail(_) => next_solid(word, line),
     }
 }

@@ -1,7 +1,6 @@
 //! Meshes, and how they are read from ASCII STL.
 #![tactic(auto)]
 
-mod coordinate;
 mod fault;
 mod form;
 pub mod mesh;

@@ -95,16 +95,116 @@ fn a_box_is_read_with_its_coordinates(rt: HostRuntime) -> Result<(), Fail> {
     Ok(())
 }
 
+// Two solids, in letters of either case.
+static TWO: &[u8] = b"SOLID facet one
+Facet Normal nan nan nan
+Outer Loop
+Vertex 1.000000e+01 0 0
+Vertex 0 1 0
+Vertex 0 0 1
+EndLoop
+EndFacet
+EndSolid one of two
+solid
+facet normal nan nan nan outer loop vertex -1 0 0 vertex 0 1 0 vertex 0 0 .5 endloop endfacet
+ENDSOLID";
+
 #[test]
-fn a_solid_that_does_not_end_is_refused(rt: HostRuntime) {
-    let refusal = read_stl(rt.alloc(), b"solid x").err();
-    let fault = StlFault::BadToken;
-    assert!(rt; refusal == Some(Refusal::Fault { line: 0, fault }));
+fn two_solids_are_one_mesh(rt: HostRuntime) -> Result<(), Fail> {
+    let mesh = read_stl(rt.alloc(), TWO).ok().ok_or("refused")?;
+    let facets = mesh.facets();
+    assert_eq!(rt; facets.len(), 2);
+    let first = Facet {
+        a: point(10_000_000, 0, 0),
+        b: point(0, 1_000_000, 0),
+        c: point(0, 0, 1_000_000),
+    };
+    let last = Facet {
+        a: point(-1_000_000, 0, 0),
+        b: point(0, 1_000_000, 0),
+        c: point(0, 0, 500_000),
+    };
+    assert!(rt; facets.first() == Some(&first));
+    assert!(rt; facets.last() == Some(&last));
+    Ok(())
+}
+
+// Texts, and the line and the fault of the first breach of each.
+static BREACHES: [(&str, u32, StlFault); 14] = [
+    ("", 1, StlFault::NoFacet),
+    (" \n \n", 2, StlFault::NoFacet),
+    ("solid a\nendsolid a\n", 2, StlFault::NoFacet),
+    ("solid x", 1, StlFault::Cut),
+    (
+        "solid a\nfacet normal 0 0 1\nouter loop\nvertex 0 0 0\nvertex 1 0 0\nvertex 0 1",
+        6,
+        StlFault::Cut,
+    ),
+    (
+        "solid a\nfacet normal 0 0 1\nouter loop\nvertex 0 0 0\nvertex 1 0 0\nvertex 0 1\n",
+        6,
+        StlFault::Cut,
+    ),
+    ("solids", 1, StlFault::BadToken),
+    (
+        "solid a\n\nendsolid b endfacet\nfacet",
+        4,
+        StlFault::BadToken,
+    ),
+    ("solid\n\n\nfacet normel 0 0 1", 4, StlFault::BadToken),
+    ("solid\nfacet normal 0 0 1 loop", 2, StlFault::BadToken),
+    (
+        "solid\nfacet normal 0 0 1\nouter loop vertex\n0 vertex 1",
+        4,
+        StlFault::BadNumber,
+    ),
+    (
+        "solid\nfacet normal 0 0 1 outer loop\nvertex 0 1e0x",
+        3,
+        StlFault::BadNumber,
+    ),
+    (
+        "solid\nfacet normal 0 0 1 outer loop\nvertex 0 1000",
+        3,
+        StlFault::Cut,
+    ),
+    (
+        "solid\nfacet normal 0 0 1 outer loop\nvertex 0 1000.000001",
+        3,
+        StlFault::TooFar,
+    ),
+];
+
+#[test]
+fn a_text_is_refused_at_its_first_breach(rt: HostRuntime) {
+    for (text, line, fault) in &BREACHES {
+        let bytes = text.as_bytes();
+        if bytes.len() <= 1000 {
+            let refusal = Refusal::Fault {
+                line: *line,
+                fault: *fault,
+            };
+            assert!(rt;
+                read_stl(rt.alloc(), bytes).err() == Some(refusal),
+                "{text}"
+            );
+        }
+    }
 }
 
 #[test]
 fn a_fault_prints_its_word(rt: HostRuntime) -> Result<(), Fail> {
-    let word = format!(in rt.alloc(); "{}", StlFault::BadToken)?;
-    assert_eq!(rt; word.as_str(), "BadToken");
+    let table = [
+        (StlFault::BadToken, "BadToken"),
+        (StlFault::BadNumber, "BadNumber"),
+        (StlFault::TooFar, "TooFar"),
+        (StlFault::TooManyFacets, "TooManyFacets"),
+        (StlFault::Cut, "Cut"),
+        (StlFault::NoFacet, "NoFacet"),
+    ];
+    for (fault, word) in &table {
+        let printed = format!(in rt.alloc(); "{fault}")?;
+        assert!(rt; printed.as_str() == *word);
+    }
     Ok(())
 }

@@ -1,2 +1,5 @@
 pub mod DecimalTexts
 pub mod Fronts
+pub mod Powers
+pub mod Numerals
+pub mod Lengths

@@ -1,8 +1,9 @@
 //! Decimal texts.
-ghost use Rattle.std.specs.Prelude.{◌≡◌, ◌+◌, ◌*◌, ◌/◌, ◌^◌, ◌<◌, ◌≤◌, ℕ, List, [], ◌∷◌, ◌++◌, length, take, pos};
+ghost use Rattle.std.specs.Prelude.{◌≡◌, ◌+◌, ◌*◌, ◌/◌, ◌^◌, ◌<◌, ◌≤◌, ℕ, List, [], ◌∷◌, ◌++◌, length, take, pos, ◌<ℤ◌};
 ghost use Rattle.pl_units.specs.Decimal.{fixed, fixed_size, last_digits};
 ghost use Rattle.pl_units.specs.Micro.{micro};
 ghost use Rattle.std.specs.Fmt.{decimal};
+ghost use Rattle.std.specs.Int.{int_div_euclid};
 
 use crate::Nm;
 
@@ -83,4 +84,12 @@ fn thousands(size: u64) -> i64
     ensures small { (size + 500) / 1000 ≤ 2 ^ 60 }
 {
     ((size + 500) / 1000) as i64
+}
+
+/// The greatest whole number that is at most `a / b`.
+pub fn floor_div(a: i128, b: i128) -> i128
+    requires { pos 0 <ℤ b }
+    ensures { result ≡ int_div_euclid a b }
+{
+    a.div_euclid(b)
 }

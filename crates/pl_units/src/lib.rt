@@ -2,13 +2,16 @@
 #![tactic(auto)]
 
 pub mod decimal;
+pub mod numeral;
 pub mod pieces;
+mod scaled;
 pub mod shared;
 #[cfg(test)]
 mod tests;
 pub mod text;
 
-pub use decimal::{put_fixed, put_number, to_micro};
+pub use decimal::{floor_div, put_fixed, put_number, to_micro};
+pub use numeral::{NumberFault, read_mm};
 pub use pieces::{Digits, append_pieces};
 pub use shared::Shared;
 use std::alloc::{AllocError, AllocFailed};

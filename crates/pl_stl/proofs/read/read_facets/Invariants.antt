@@ -1,6 +1,6 @@
-use Rattle.std.proofs.Common.{◌≡◌, ◌≤◌, drop}
+use Rattle.std.proofs.Common.{◌≡◌, ◌≤◌, ◌+◌, ◌-◌, take, drop, sum_by}
 use Rattle.std.specs.List.{between}
-use Rattle.pl_stl.specs.Words.{words_from}
+use Rattle.pl_stl.specs.Tokens.{tokens_from, line_end, last_line}
 use Rattle.pl_stl.specs.Reading.{run, mesh_of}
 use Rattle.pl_stl.specs.Reader.{state_of}
 use Rattle.pl_stl.proofs.read.read_facets.Given as goal
@@ -8,5 +8,8 @@ use Rattle.pl_stl.proofs.read.read_facets.Given as goal
 abbrev pub invariant-loop-i : goal.invariant-loop-i
 invariant-loop-i l = record {
   begun : l.start ≤ l.i;
-  rest : run (state_of l.reader) (words_from (between l.start l.i l.bytes) (drop l.i l.bytes)) ≡ mesh_of l.bytes;
+  last : l.last ≡ 1 + sum_by line_end (take (l.i - 1) l.bytes);
+  line : l.line ≡ 1 + sum_by line_end (take l.i l.bytes);
+  small : l.line ≤ l.i + 1;
+  rest : run (last_line l.bytes) (state_of l.reader) (tokens_from l.line (between l.start l.i l.bytes) (drop l.i l.bytes)) ≡ mesh_of l.bytes;
 }

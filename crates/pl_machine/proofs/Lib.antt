@@ -1,0 +1,7 @@
+pub mod Sound
+pub mod Runs
+pub mod Lasting
+pub mod Applying
+pub mod Looking
+pub mod Excluding
+pub mod Standing

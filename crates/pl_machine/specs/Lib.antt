@@ -1,0 +1,10 @@
+pub mod Each
+pub mod Machine
+pub mod History
+pub mod Outcome
+pub mod Calls
+pub mod Look
+pub mod Stability
+pub mod Applied
+pub mod Startable
+pub mod Tickets

@@ -1,0 +1,12 @@
+pub mod Iterates
+pub mod Tracing
+pub mod Finding
+pub mod Turns
+pub mod SideLemmas
+pub mod Rows
+pub mod SideNumbers
+pub mod EdgeLaws
+pub mod Partition
+pub mod RingLemmas
+pub mod CycleMembers
+pub mod CornerLemmas
