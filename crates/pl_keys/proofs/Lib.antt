@@ -1,0 +1,4 @@
+pub mod Commas
+pub mod Fits
+pub mod Masks
+pub mod Names
