@@ -26,7 +26,7 @@ and_not false b h k = refl
 
 module _ {P E R O : Type 0} (m : Meaning P E R O) (laws : IsLawful m) where
   -- a slot that is held is present
-  abbrev HeldArePresent : Machine P → Type 0
+  abbrev pub HeldArePresent : Machine P → Type 0
   HeldArePresent st = (k : ℕ) → k < 100 → is_invalid (mode_of st k) ≡ false → m.present st.applied k ≡ true
 
   -- a slot falls to Invalid and its epoch rises, or it stays with all that it has
@@ -47,7 +47,7 @@ module _ {P E R O : Type 0} (m : Meaning P E R O) (laws : IsLawful m) where
     | false ↦ λ pb. absurd (let t : m.touched a b k ≡ true = laws.changed_touched a b k (λ e. let f : true ≡ false = sym pa ∙ e ∙ pb in cc) in cc)
   ] refl
 
-  mode_after : (st : Machine P) (hit : ℕ → Bool) (k : ℕ) → k < 100 → get_or (modes_after st hit) k Invalid ≡ cond (hit k) Invalid (mode_of st k)
+  pub mode_after : (st : Machine P) (hit : ℕ → Bool) (k : ℕ) → k < 100 → get_or (modes_after st hit) k Invalid ≡ cond (hit k) Invalid (mode_of st k)
   mode_after st hit k low = get_or-each_slot (λ j. cond (hit j) Invalid (mode_of st j)) k Invalid low
 
   epoch_after : (st : Machine P) (hit : ℕ → Bool) (k : ℕ) → k < 100 → get_or (epochs_after st hit) k 0 ≡ cond (hit k) (epoch_of st k + 1) (epoch_of st k)
@@ -114,7 +114,7 @@ module _ {P E R O : Type 0} (m : Meaning P E R O) (laws : IsLawful m) where
       modes (inl done) (inr same) = inl (same ∙ done)
       modes (inr was) (inr same) = inr (same ∙ was)
 
-  blank_present : HeldArePresent (blank m)
+  pub blank_present : HeldArePresent (blank m)
   blank_present k low held = absurd (let f : true ≡ false = ap is_invalid (sym (get_or-replicate 100 k Invalid Invalid low)) ∙ held in cc)
 
   module _ {T J B : Type 0} where
@@ -172,7 +172,7 @@ module _ {P E R O : Type 0} (m : Meaning P E R O) (laws : IsLawful m) where
     run_rises st [] k low = omega arith
     run_rises st (e ∷ es) k low = omega (arith, step_rises st e.actor e.what k low, run_rises (next m st e.actor e.what) es k low)
 
-    run_present : (st : Machine P) (es : List (Entry T P E R O J B)) → IsRunFrom m st es → HeldArePresent st → HeldArePresent (replay_from m st es)
+    pub run_present : (st : Machine P) (es : List (Entry T P E R O J B)) → IsRunFrom m st es → HeldArePresent st → HeldArePresent (replay_from m st es)
     run_present st [] run present = present
     run_present st (e ∷ es) run present = run_present (next m st e.actor e.what) es run.1 (step_present st e.actor e.what run.0 present)
 

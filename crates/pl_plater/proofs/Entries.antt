@@ -1,76 +1,67 @@
 -- The texts of entries one after another.
-use Rattle.std.proofs.Common.{◌≡◌, ℕ, zero, suc, ◌+◌, ◌<◌, ◌≤◌, List, [], ◌∷◌, ◌++◌, length, take, drop, get_or, refl, ap, sym, subst, ◌∙◌, append_assoc, arith, Option, Result, Ok, Err, OnOk}
-use Rattle.std.specs.Prelude.{codes}
-use Rattle.std.specs.Fmt.{decimal, digits}
+use Rattle.std.proofs.Common.{◌≡◌, ℕ, suc, ◌+◌, ◌<◌, ◌≤◌, List, [], ◌∷◌, ◌++◌, length, take, drop, get_or, ap, sym, subst, ◌∙◌, append_assoc, arith, Option, Result, Ok, Err, OnOk}
 use Rattle.std.specs.Io.KnownBytes.{Appends}
-use Rattle.std.proofs.lemmas.List.{append-nil, take_more, drop_more, take-append-drop, length-take-le, take_all}
+use Rattle.std.proofs.lemmas.List.{append-nil, take_more, take-append-drop, length-take-le, take_all}
 use Rattle.pl_ports.specs.Causes.{AppendsFront}
 use Rattle.pl_ports.specs.Fronts.{appends_more, front_after, front_of_first}
-use Rattle.pl_plater.specs.declared.entry.Entry.{Entry}
+use Rattle.pl_tech.specs.Technology.{Meaning}
+use Rattle.pl_machine.specs.declared.entry.Entry.{Entry}
+use Rattle.pl_thin.specs.declared.reply.EditReply.{EditReply}
+use Rattle.pl_thin.specs.Load.{Load}
 use Rattle.pl_plater.specs.Transcript.{entry_text, entries_text, end_text, transcript}
 
 abbrev Bytes : Type 0
 Bytes = List ℕ
 
-entries_append : (n : ℕ) (xs ys : List Entry) → entries_text n (xs ++ ys) ≡ entries_text n xs ++ entries_text (n + length xs) ys
-entries_append n [] ys = let e : n ≡ n + 0 = omega arith in ap (λ k. entries_text k ys) e
-entries_append n (x ∷ xs) ys =
-    let e : suc n + length xs ≡ n + suc (length xs) = omega arith in
-    ap (λ l. entry_text n x ++ l) (entries_append (suc n) xs ys ∙ ap (λ k. entries_text (suc n) xs ++ entries_text k ys) e)
-    ∙ sym (append_assoc (entry_text n x) (entries_text (suc n) xs) (entries_text (n + suc (length xs)) ys))
+module _ {P O : Type 0} (m : Meaning P Load EditReply O) {T J B : Type 0} where
+  entries_append : (n : ℕ) (xs ys : List (Entry T P Load EditReply O J B)) → entries_text m n (xs ++ ys) ≡ entries_text m n xs ++ entries_text m (n + length xs) ys
+  entries_append n [] ys = let e : n ≡ n + 0 = omega arith in ap (λ k. entries_text m k ys) e
+  entries_append n (x ∷ xs) ys =
+      let e : suc n + length xs ≡ n + suc (length xs) = omega arith in
+      ap (λ l. entry_text m n x ++ l) (entries_append (suc n) xs ys ∙ ap (λ k. entries_text m (suc n) xs ++ entries_text m k ys) e)
+      ∙ sym (append_assoc (entry_text m n x) (entries_text m (suc n) xs) (entries_text m (n + suc (length xs)) ys))
 
--- the entries before one, and it
-entries_more : (xs : List Entry) (i : ℕ) (d : Entry) → i < length xs → entries_text 1 (take (i + 1) xs) ≡ entries_text 1 (take i xs) ++ entry_text (i + 1) (get_or xs i d)
-entries_more xs i d h =
-    let count : 1 + length (take i xs) ≡ i + 1 = omega (arith, length-take-le i xs (omega arith)) in
-    ap (entries_text 1) (take_more xs i d h) ∙ entries_append 1 (take i xs) (get_or xs i d ∷ [])
-    ∙ ap (λ k. entries_text 1 (take i xs) ++ (entry_text k (get_or xs i d) ++ [])) count
-    ∙ ap (λ l. entries_text 1 (take i xs) ++ l) (append-nil (entry_text (i + 1) (get_or xs i d)))
+  -- the entries before one, and it
+  entries_more : (xs : List (Entry T P Load EditReply O J B)) (i : ℕ) (d : Entry T P Load EditReply O J B) → i < length xs → entries_text m 1 (take (i + 1) xs) ≡ entries_text m 1 (take i xs) ++ entry_text m (i + 1) (get_or xs i d)
+  entries_more xs i d h =
+      let count : 1 + length (take i xs) ≡ i + 1 = omega (arith, length-take-le i xs (omega arith)) in
+      ap (entries_text m 1) (take_more xs i d h) ∙ entries_append 1 (take i xs) (get_or xs i d ∷ [])
+      ∙ ap (λ k. entries_text m 1 (take i xs) ++ (entry_text m k (get_or xs i d) ++ [])) count
+      ∙ ap (λ l. entries_text m 1 (take i xs) ++ l) (append-nil (entry_text m (i + 1) (get_or xs i d)))
 
--- the entries before one, it, and what comes after it
-entries_at : (xs : List Entry) (i : ℕ) (d : Entry) → i < length xs → transcript xs 0 ≡ entries_text 1 (take i xs) ++ (entry_text (i + 1) (get_or xs i d) ++ (entries_text (1 + length (take (i + 1) xs)) (drop (i + 1) xs) ++ end_text (length xs) 0))
-entries_at xs i d h =
-    let rest = entries_text (1 + length (take (i + 1) xs)) (drop (i + 1) xs) in
-    let last = end_text (length xs) 0 in
-    ap (λ l. l ++ last) (ap (entries_text 1) (sym (take-append-drop (i + 1) xs)) ∙ entries_append 1 (take (i + 1) xs) (drop (i + 1) xs) ∙ ap (λ l. l ++ rest) (entries_more xs i d h))
-    ∙ append_assoc (entries_text 1 (take i xs) ++ entry_text (i + 1) (get_or xs i d)) rest last
-    ∙ append_assoc (entries_text 1 (take i xs)) (entry_text (i + 1) (get_or xs i d)) (rest ++ last)
+  -- the entries before one, it, and what comes after it
+  entries_at : (runs : ℕ) (xs : List (Entry T P Load EditReply O J B)) (i : ℕ) (d : Entry T P Load EditReply O J B) → i < length xs → transcript m xs runs ≡ entries_text m 1 (take i xs) ++ (entry_text m (i + 1) (get_or xs i d) ++ (entries_text m (1 + length (take (i + 1) xs)) (drop (i + 1) xs) ++ end_text (length xs) runs))
+  entries_at runs xs i d h =
+      let rest = entries_text m (1 + length (take (i + 1) xs)) (drop (i + 1) xs) in
+      let last = end_text (length xs) runs in
+      ap (λ l. l ++ last) (ap (entries_text m 1) (sym (take-append-drop (i + 1) xs)) ∙ entries_append 1 (take (i + 1) xs) (drop (i + 1) xs) ∙ ap (λ l. l ++ rest) (entries_more xs i d h))
+      ∙ append_assoc (entries_text m 1 (take i xs) ++ entry_text m (i + 1) (get_or xs i d)) rest last
+      ∙ append_assoc (entries_text m 1 (take i xs)) (entry_text m (i + 1) (get_or xs i d)) (rest ++ last)
 
--- one entry more was appended
-pub put_more : (xs : List Entry) (i : ℕ) (x : Entry) (a b c : Option Bytes) → x ≡ get_or xs i x → i < length xs → Appends a b (entries_text 1 (take i xs)) → Appends b c (entry_text (i + 1) x) → Appends a c (entries_text 1 (take (i + 1) xs))
-put_more xs i x a b c e h before one =
-    subst (Appends a c) (ap (λ y. entries_text 1 (take i xs) ++ entry_text (i + 1) y) e ∙ sym (entries_more xs i x h)) (appends_more a b c (entries_text 1 (take i xs)) (entry_text (i + 1) x) before one)
+  -- one entry more was appended
+  pub put_more : (xs : List (Entry T P Load EditReply O J B)) (i : ℕ) (x : Entry T P Load EditReply O J B) (a b c : Option Bytes) → x ≡ get_or xs i x → i < length xs → Appends a b (entries_text m 1 (take i xs)) → Appends b c (entry_text m (i + 1) x) → Appends a c (entries_text m 1 (take (i + 1) xs))
+  put_more xs i x a b c e h before one =
+      subst (Appends a c) (ap (λ y. entries_text m 1 (take i xs) ++ entry_text m (i + 1) y) e ∙ sym (entries_more xs i x h)) (appends_more a b c (entries_text m 1 (take i xs)) (entry_text m (i + 1) x) before one)
 
--- a stop in an entry
-pub stop_in_entry : (xs : List Entry) (i : ℕ) (x : Entry) (a b c : Option Bytes) → x ≡ get_or xs i x → i < length xs → Appends a b (entries_text 1 (take i xs)) → AppendsFront b c (entry_text (i + 1) x) → AppendsFront a c (transcript xs 0)
-stop_in_entry xs i x a b c e h before one =
-    let rest = entries_text (1 + length (take (i + 1) xs)) (drop (i + 1) xs) ++ end_text (length xs) 0 in
-    subst (AppendsFront a c) (ap (λ y. entries_text 1 (take i xs) ++ (entry_text (i + 1) y ++ rest)) e ∙ sym (entries_at xs i x h))
-    (front_after a b c (entries_text 1 (take i xs)) (entry_text (i + 1) x ++ rest) before (front_of_first b c (entry_text (i + 1) x) rest one))
+  -- a stop in an entry
+  pub stop_in_entry : (runs : ℕ) (xs : List (Entry T P Load EditReply O J B)) (i : ℕ) (x : Entry T P Load EditReply O J B) (a b c : Option Bytes) → x ≡ get_or xs i x → i < length xs → Appends a b (entries_text m 1 (take i xs)) → AppendsFront b c (entry_text m (i + 1) x) → AppendsFront a c (transcript m xs runs)
+  stop_in_entry runs xs i x a b c e h before one =
+      let rest = entries_text m (1 + length (take (i + 1) xs)) (drop (i + 1) xs) ++ end_text (length xs) runs in
+      subst (AppendsFront a c) (ap (λ y. entries_text m 1 (take i xs) ++ (entry_text m (i + 1) y ++ rest)) e ∙ sym (entries_at runs xs i x h))
+      (front_after a b c (entries_text m 1 (take i xs)) (entry_text m (i + 1) x ++ rest) before (front_of_first b c (entry_text m (i + 1) x) rest one))
 
-all_entries : (xs : List Entry) (i : ℕ) → length xs ≤ i → entries_text 1 (take i xs) ≡ entries_text 1 xs
-all_entries xs i h = ap (entries_text 1) (take_all i xs h)
+  all_entries : (xs : List (Entry T P Load EditReply O J B)) (i : ℕ) → length xs ≤ i → entries_text m 1 (take i xs) ≡ entries_text m 1 xs
+  all_entries xs i h = ap (entries_text m 1) (take_all i xs h)
 
--- all entries and the last line
-pub put_last : (xs : List Entry) (i n : ℕ) (a b c : Option Bytes) → length xs ≤ i → n ≡ length xs → Appends a b (entries_text 1 (take i xs)) → Appends b c (end_text n 0) → Appends a c (transcript xs 0)
-put_last xs i n a b c h e before one =
-    appends_more a b c (entries_text 1 xs) (end_text (length xs) 0) (subst (Appends a b) (all_entries xs i h) before) (subst (λ k. Appends b c (end_text k 0)) e one)
+  -- all entries and the last line
+  pub put_last : (runs : ℕ) (xs : List (Entry T P Load EditReply O J B)) (i n : ℕ) (a b c : Option Bytes) → length xs ≤ i → n ≡ length xs → Appends a b (entries_text m 1 (take i xs)) → Appends b c (end_text n runs) → Appends a c (transcript m xs runs)
+  put_last runs xs i n a b c h e before one =
+      appends_more a b c (entries_text m 1 xs) (end_text (length xs) runs) (subst (Appends a b) (all_entries xs i h) before) (subst (λ k. Appends b c (end_text k runs)) e one)
 
--- a stop in the last line
-pub stop_in_last : (xs : List Entry) (i n : ℕ) (a b c : Option Bytes) → length xs ≤ i → n ≡ length xs → Appends a b (entries_text 1 (take i xs)) → AppendsFront b c (end_text n 0) → AppendsFront a c (transcript xs 0)
-stop_in_last xs i n a b c h e before one =
-    front_after a b c (entries_text 1 xs) (end_text (length xs) 0) (subst (Appends a b) (all_entries xs i h) before) (subst (λ k. AppendsFront b c (end_text k 0)) e one)
-
-no_digit : decimal 0 ≡ codes "0"
-unfolding digits
-no_digit = refl
-
--- the last line, with no job run
-pub end_is : (out old : Bytes) (n : ℕ) → out ≡ old ++ ((codes "end " ++ decimal n) ++ codes " runs 0\n") → old ≡ [] → out ≡ end_text n 0
-end_is out old n e none =
-    e ∙ ap (λ l. l ++ ((codes "end " ++ decimal n) ++ codes " runs 0\n")) none
-    ∙ sym (append_assoc ((codes "end " ++ decimal n) ++ codes " runs ") (codes "0") (codes "\n") ∙ append_assoc (codes "end " ++ decimal n) (codes " runs ") (codes "0\n"))
-    ∙ ap (λ z. (((codes "end " ++ decimal n) ++ codes " runs ") ++ z) ++ 10 ∷ []) (sym no_digit)
+  -- a stop in the last line
+  pub stop_in_last : (runs : ℕ) (xs : List (Entry T P Load EditReply O J B)) (i n : ℕ) (a b c : Option Bytes) → length xs ≤ i → n ≡ length xs → Appends a b (entries_text m 1 (take i xs)) → AppendsFront b c (end_text n runs) → AppendsFront a c (transcript m xs runs)
+  stop_in_last runs xs i n a b c h e before one =
+      front_after a b c (entries_text m 1 xs) (end_text (length xs) runs) (subst (Appends a b) (all_entries xs i h) before) (subst (λ k. AppendsFront b c (end_text k runs)) e one)
 
 pub on_ok : {T E : Type 0} (P Q : Type 0) (r : Result T E) → (P → Q) → OnOk r P → OnOk r Q
 on_ok P Q (Ok x) f p = f p

@@ -1,5 +1,4 @@
-pub mod Entries
-pub mod Histories
-pub mod Loading
-pub mod Thin
-pub mod Tops
+mod Waiting
+mod Entries
+mod Names
+mod Tops

@@ -1,9 +1,9 @@
 -- What the top call answers.
-use Rattle.std.proofs.Common.{◌≡◌, ◌≢◌, ◌+◌, ◌<◌, ◌≤◌, ℕ, Bool, true, false, List, [], ◌∷◌, ◌++◌, length, map, get_or, refl, ap, sym, subst, ◌∙◌, arith, cond, Option, Some, None, Err, String, IsTrue, ◌↔◌, ◌⊎◌, inl, inr}
-use Rattle.std.specs.Prelude.{string_bytes, nat_le, IfSome}
+use Rattle.std.proofs.Common.{◌≡◌, ◌<◌, ◌≤◌, ℕ, Bool, List, [], ◌∷◌, ◌++◌, length, map, get_or, refl, ap, sym, subst, ◌∙◌, arith, Option, Some, None, String, IsTrue, ◌↔◌}
+use Rattle.std.specs.Prelude.{string_bytes, IfSome}
 use Rattle.std.specs.Global.{Global}
 use Rattle.std.specs.Str.{bytes_eq}
-use Rattle.std.specs.Io.KnownBytes.{Consumes, Appends, IsAtEnd}
+use Rattle.std.specs.Io.KnownBytes.{Consumes, IsAtEnd}
 use Rattle.std.proofs.lemmas.List.{append-nil}
 use Rattle.std.proofs.lemmas.Slice.Eq.{bytes_eq-Decides}
 use Rattle.pl_units.specs.declared.Refusal.{Refusal}
@@ -13,14 +13,13 @@ use Rattle.pl_ports.specs.declared.ends.ReadStop.{ReadStop}
 use Rattle.pl_script.specs.declared.script.Command.{Command}
 use Rattle.pl_script.specs.declared.script.ScriptFault.{ScriptFault}
 use Rattle.pl_script.specs.Script.{script_of, IsRefused}
-use Rattle.pl_plater.specs.declared.status.TopFault.TheVariants.{Script}
 use Rattle.pl_plater.specs.declared.status.Status.{Status}
-use Rattle.pl_plater.specs.declared.status.Status.TheVariants.{Refused}
 use Rattle.pl_plater.specs.Status.{refusal_status, stop_status}
-use Rattle.pl_plater.specs.declared.entry.Entry.{Entry}
-use Rattle.pl_plater.specs.Machine.{IsComplete}
+use Rattle.pl_session.specs.Complete.{IsComplete, runs_of}
+use Rattle.pl_thin.specs.Thin.{thin_meaning}
+use Rattle.pl_plater.specs.Commands.{session_commands}
 use Rattle.pl_plater.specs.Transcript.{transcript}
-use Rattle.pl_plater.specs.Headline.{limit, IsCause, Answers, WritesFront}
+use Rattle.pl_plater.specs.Headline.{limit, IsCause, Answers, History, WritesFront}
 
 -- a list of one
 pub only : {X : Type 0} (xs : List X) (x : X) → 1 ≤ length xs → length xs < 2 → x ≡ get_or xs 0 x → xs ≡ x ∷ []
@@ -66,6 +65,6 @@ answers_stop ReadStop.TooLong status old new e long = subst (λ (s : Status). If
 answers_stop ReadStop.NoMemory status old new e long = subst (λ (s : Status). IfSome old (Answers s)) (sym e) (anything old (Answers (stop_status ReadStop.NoMemory)) (λ bytes. tt))
 
 -- a front of the transcript of a script's history
-pub front_of_history : (bytes : List ℕ) (old new : Option (List ℕ)) (commands : List Command) (history written : List Entry) → script_of bytes ≡ Some commands → IsComplete commands history → written ≡ history → AppendsFront old new (transcript written 0) → WritesFront bytes old new
-front_of_history bytes old new commands history written s done e front =
-    record { commands = commands; history = history; script = s; complete = done; output = subst (λ h. AppendsFront old new (transcript h 0)) e front }
+pub front_of_history : (bytes : List ℕ) (old new : Option (List ℕ)) (commands : List Command) (history written : History) (runs : ℕ) → script_of bytes ≡ Some commands → IsComplete thin_meaning (session_commands commands) 0 history → runs ≡ runs_of history → written ≡ history → AppendsFront old new (transcript thin_meaning written runs) → WritesFront bytes old new
+front_of_history bytes old new commands history written runs s done r e front =
+    record { commands = commands; history = history; script = s; complete = done; output = rw (← r) (subst (λ h. AppendsFront old new (transcript thin_meaning h runs)) e front) }

@@ -1,7 +1,5 @@
+pub mod Commands
 pub mod Headline
-pub mod Machine
-pub mod Plate
-pub mod Problem
 pub mod Status
 pub mod Transcript
 pub mod Words

@@ -1,11 +1,8 @@
 //! The whole program as one call.
 #![tactic(auto)]
 
-pub mod entry;
-mod gcode;
-mod problem;
+mod commands;
 mod run;
-mod state;
 pub mod status;
 #[cfg(test)]
 mod tests;

@@ -1,34 +1,27 @@
 //! Running a script.
 ghost use Rattle.std.specs.Prelude.{◌≡◌, IfOk};
-ghost use Rattle.pl_plater.specs.Machine.{IsComplete, IsUnderWay};
+ghost use Rattle.std.specs.Thread.{IsSync};
+ghost use Rattle.pl_session.specs.Complete.{IsComplete, runs_of};
+ghost use Rattle.pl_thin.specs.Thin.{thin_meaning};
+ghost use Rattle.pl_plater.specs.Commands.{session_commands};
 
-use crate::entry::Entry;
-use crate::state::State;
+use crate::commands::machine_commands;
 use pl_script::Script;
+use pl_session::{Ended, run_session};
+use pl_thin::Thin;
 use pl_units::NoMemory;
 use std::alloc::Global;
+use std::thread::Threads;
 
-// The history of a script's commands, before its session has left.
-fn call_all(alloc: Global, script: Script) -> Result<Vec<Entry>, NoMemory>
-    ensures { IfOk result (λ journal. IsUnderWay script journal.items) }
+/// Runs the commands of a script on the calling thread.
+pub(crate) fn run_script<R: Threads + Sync>(
+    rt: &R,
+    alloc: Global,
+    script: Script,
+) -> Result<Ended<Thin>, NoMemory>
+    ensures complete { IfOk result (λ ended. IsComplete thin_meaning (session_commands script) 0 ended.journal.items) }
+    ensures runs { IfOk result (λ ended. ended.runs ≡ runs_of ended.journal.items) }
 {
-    let mut state = State::blank();
-    let mut journal = Vec::new(alloc);
-    for command in script.into_commands() {
-        let reply = state.call(alloc, &command)?;
-        journal.push(Entry::Call { command, reply })?;
-    }
-    Ok(journal)
-}
-
-/// The history of a script's one session: each command once, in order, and a bye at the end where there was one.
-pub(crate) fn run_script(alloc: Global, script: Script) -> Result<Vec<Entry>, NoMemory>
-    ensures { IfOk result (λ journal. IsComplete script journal.items) }
-{
-    let mut journal = call_all(alloc, script)?;
-    if journal.is_empty() {
-        return Ok(journal);
-    }
-    journal.push(Entry::Bye)?;
-    Ok(journal)
+    let commands = machine_commands(alloc, script)?;
+    run_session::<Thin, R>(rt, alloc, commands)
 }

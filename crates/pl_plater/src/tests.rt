@@ -14,7 +14,11 @@ const BOX: &[u8] =
 
 // What a load, an apply and an export of the box write.
 const TRANSCRIPT: &[u8] =
-    b"1 s1 load cube box = object 0\n2 s1 apply = changed\n3 s1 export = gcode 409\n; headless plater\nG21\nG90\nM83\nM140 S60\nM104 S215\nM190 S60\nM109 S215\n;Z 0.200\nG1 Z0.200 F7800\n;OBJECT 0 0\nG1 X0.000 Y0.200 F7800\nG1 F4800\nG1 X0.800 Y0.200 E0.02660\nG1 X0.800 Y0.600 F7800\nG1 F4800\nG1 X0.000 Y0.600 E0.02660\n;Z 0.400\nG1 Z0.400 F7800\nM140 S60\nM104 S210\n;OBJECT 0 0\nG1 X0.200 Y0.000 F7800\nG1 F4800\nG1 X0.200 Y0.800 E0.02660\nG1 X0.600 Y0.800 F7800\nG1 F4800\nG1 X0.600 Y0.000 E0.02660\nM104 S0\nM140 S0\n\n4 s1 bye\nend 4 runs 0\n";
+    b"1 s1 load cube box = object 0\n2 s1 apply = changed\n3 s1 start 0.slice 0\n4 s1 done 0.slice 0\n5 s1 start export 0\n6 s1 done export 0\n7 s1 export = gcode 409\n; headless plater\nG21\nG90\nM83\nM140 S60\nM104 S215\nM190 S60\nM109 S215\n;Z 0.200\nG1 Z0.200 F7800\n;OBJECT 0 0\nG1 X0.000 Y0.200 F7800\nG1 F4800\nG1 X0.800 Y0.200 E0.02660\nG1 X0.800 Y0.600 F7800\nG1 F4800\nG1 X0.000 Y0.600 E0.02660\n;Z 0.400\nG1 Z0.400 F7800\nM140 S60\nM104 S210\n;OBJECT 0 0\nG1 X0.200 Y0.000 F7800\nG1 F4800\nG1 X0.200 Y0.800 E0.02660\nG1 X0.600 Y0.800 F7800\nG1 F4800\nG1 X0.600 Y0.000 E0.02660\nM104 S0\nM140 S0\n\n8 s1 bye\nend 8 runs 2\n";
+
+// What is written where the box is exported twice.
+const TWO_EXPORTS: &[u8] =
+    b"1 s1 load a box = object 0\n2 s1 apply = changed\n3 s1 start 0.slice 0\n4 s1 done 0.slice 0\n5 s1 start export 0\n6 s1 done export 0\n7 s1 export = gcode 409\n; headless plater\nG21\nG90\nM83\nM140 S60\nM104 S215\nM190 S60\nM109 S215\n;Z 0.200\nG1 Z0.200 F7800\n;OBJECT 0 0\nG1 X0.000 Y0.200 F7800\nG1 F4800\nG1 X0.800 Y0.200 E0.02660\nG1 X0.800 Y0.600 F7800\nG1 F4800\nG1 X0.000 Y0.600 E0.02660\n;Z 0.400\nG1 Z0.400 F7800\nM140 S60\nM104 S210\n;OBJECT 0 0\nG1 X0.200 Y0.000 F7800\nG1 F4800\nG1 X0.200 Y0.800 E0.02660\nG1 X0.600 Y0.800 F7800\nG1 F4800\nG1 X0.600 Y0.000 E0.02660\nM104 S0\nM140 S0\n\n8 s1 apply = unchanged\n9 s1 export = gcode 409\n; headless plater\nG21\nG90\nM83\nM140 S60\nM104 S215\nM190 S60\nM109 S215\n;Z 0.200\nG1 Z0.200 F7800\n;OBJECT 0 0\nG1 X0.000 Y0.200 F7800\nG1 F4800\nG1 X0.800 Y0.200 E0.02660\nG1 X0.800 Y0.600 F7800\nG1 F4800\nG1 X0.000 Y0.600 E0.02660\n;Z 0.400\nG1 Z0.400 F7800\nM140 S60\nM104 S210\n;OBJECT 0 0\nG1 X0.200 Y0.000 F7800\nG1 F4800\nG1 X0.200 Y0.800 E0.02660\nG1 X0.600 Y0.800 F7800\nG1 F4800\nG1 X0.600 Y0.000 E0.02660\nM104 S0\nM140 S0\n\n10 s1 bye\nend 10 runs 2\n";
 
 // The command line's words.
 fn words(alloc: Global, words: &[&str]) -> Result<Vec<String>, Fail> {
@@ -62,7 +66,28 @@ fn scripts_give_their_transcripts(rt: HostRuntime) -> Result<(), Fail> {
         ),
         (
             Text::copy_of(alloc, b"plater 1\ndata bad\nsolid x\n.end\n1 load a bad\n")?,
-            b"1 s1 load a bad = refused BadStl 0 BadToken\n2 s1 bye\nend 2 runs 0\n".as_slice(),
+            b"1 s1 load a bad = refused BadStl 1 Cut\n2 s1 bye\nend 2 runs 0\n".as_slice(),
+        ),
+        (
+            Text::copy_of(
+                alloc,
+                b"plater 1\ndata cut\nsolid a\nfacet normal 0 0 1\nouter loop\nvertex 0 0 0\nvertex 1 0 0\nvertex 0 1\n.end\n1 load a cut\n",
+            )?,
+            b"1 s1 load a cut = refused BadStl 6 Cut\n2 s1 bye\nend 2 runs 0\n".as_slice(),
+        ),
+        (
+            Text::copy_of(
+                alloc,
+                b"plater 1\ndata wide\nSOLID\nFacet Normal nan nan nan OUTER LOOP vertex 0 0 0 vertex 3e2 0 0 vertex 0 4 .4 EndLoop EndFacet\nENDSOLID\n.end\n1 load a wide\n1 apply\n1 export\n",
+            )?,
+            b"1 s1 load a wide = object 0\n2 s1 apply = changed\n3 s1 export = refused OutOfBed 0 0\n4 s1 bye\nend 4 runs 0\n".as_slice(),
+        ),
+        (
+            with_box(
+                alloc,
+                b"1 load a box\n1 apply\n1 export\n1 apply\n1 export\n",
+            )?,
+            TWO_EXPORTS,
         ),
         (
             with_box(alloc, b"1 load a box\n1 load b box\n1 apply\n1 apply")?,

@@ -48,7 +48,7 @@ fn unread(stop: &ReadStop) -> Status
 }
 
 // The command `run`, from the bytes that were read on.
-fn play<K: Sink>(alloc: Global, bytes: &[u8], sink: &mut K) -> Status
+fn play<R: Threads + Sync, K: Sink>(rt: &R, alloc: Global, bytes: &[u8], sink: &mut K) -> Status
     requires { length bytes.now ≤ limit }
     ensures usage { result ≢ Status.Usage }
     ensures read { result ≢ Status.ReadFault }
@@ -62,10 +62,10 @@ fn play<K: Sink>(alloc: Global, bytes: &[u8], sink: &mut K) -> Status
         Ok(script) => script,
         Err(refusal) => return refused(&refusal),
     };
-    let Ok(journal) = run_script(alloc, script) else {
+    let Ok(ended) = run_script(rt, alloc, script) else {
         return Status::NoMemory;
     };
-    match put_transcript(alloc, sink, &journal) {
+    match put_transcript(alloc, sink, &ended.journal, ended.runs) {
         Ok(()) => Status::Done,
         Err(SinkStop::Failed) => Status::WriteFault,
         Err(SinkStop::NoMemory) => Status::NoMemory,
@@ -73,7 +73,12 @@ fn play<K: Sink>(alloc: Global, bytes: &[u8], sink: &mut K) -> Status
 }
 
 // The command `run`.
-fn run<S: Source, K: Sink>(alloc: Global, source: &mut S, sink: &mut K) -> Status
+fn run<R: Threads + Sync, S: Source, K: Sink>(
+    rt: &R,
+    alloc: Global,
+    source: &mut S,
+    sink: &mut K,
+) -> Status
     ensures usage { result ≢ Status.Usage }
     ensures answer { IfSome (S.left source.old) (Answers result) }
     ensures done { result ≡ Status.Done → IfSome (S.left source.old) (λ bytes. Writes bytes (K.held sink.old) (K.held sink.new)) }
@@ -85,7 +90,7 @@ fn run<S: Source, K: Sink>(alloc: Global, source: &mut S, sink: &mut K) -> Statu
     ensures front { IfSome (S.left source.old) (λ bytes. (sink.new ≡ sink.old) ⊎ WritesFront bytes (K.held sink.old) (K.held sink.new)) }
 {
     match read_all(alloc, source, LIMIT) {
-        Ok(text) => play(alloc, text.bytes(), sink),
+        Ok(text) => play(rt, alloc, text.bytes(), sink),
         Err(stop) => unread(&stop),
     }
 }
@@ -127,5 +132,5 @@ pub fn plater<Runtime: Threads + Wait + Sync, S: Source, K: Sink, G: Gate + Sync
     if !is_run(words) {
         return Status::Usage;
     }
-    run(alloc, source, sink)
+    run(rt, alloc, source, sink)
 }

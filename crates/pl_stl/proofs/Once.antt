@@ -1,12 +1,12 @@
 -- A text has one first breach.
-use Rattle.std.proofs.Common.{◌≡◌, ℕ, List, [], ◌∷◌, ◌++◌, length, refl, ap, sym, ◌∙◌, arith, subst, Ok, Err, ◌⊎◌, inl, inr}
+use Rattle.std.proofs.Common.{◌≡◌, ◌↔◌, ℕ, List, [], ◌∷◌, ◌++◌, length, refl, ap, sym, ◌∙◌, arith, subst, Result, Ok, Err, ◌⊎◌, inl, inr}
 use Rattle.pl_units.specs.declared.Refusal.{Refusal}
 use Rattle.pl_units.specs.declared.Refusal.TheVariants as refusals
 use Rattle.pl_stl.specs.declared.mesh.Facet.{Facet}
 use Rattle.pl_stl.specs.declared.fault.StlFault.{StlFault}
 use Rattle.pl_stl.specs.Tokens.{Token, tokens}
 use Rattle.pl_stl.specs.Grammar.{IsText, IsMeshText, Begins, IsFault, bad_number, too_many, bad_token, of_number, Breaks, at_token, cut, no_facet, IsFirstBreach}
-use Rattle.pl_stl.specs.Reading.{mesh_of, breach, Refuses}
+use Rattle.pl_stl.specs.Reading.{mesh_of, Breach, breach, Refuses}
 use Rattle.pl_stl.proofs.Law.{begins_less, begins_up_to, text_begins, verdict_is}
 
 -- two places in one list
@@ -102,3 +102,21 @@ same_breach bytes line fault refusals.NoMemory h b = inr refl
 same_breach bytes line fault (refusals.Fault at other) h b =
     let s = once (verdict_is bytes (Err (breach at other)) h).0 b in
     inl (ap (λ (l : ℕ). refusals.Fault l other) s.0 ∙ ap (λ (f : StlFault). refusals.Fault line f) s.1)
+
+-- What reading gives, by what the text is.
+
+read_text : (bytes : List ℕ) (gs : List Facet) (r : Result (List Facet) Breach) → mesh_of bytes ≡ r → IsMeshText bytes gs → r ≡ Ok gs
+read_text bytes gs (Ok fs) e text = ap (λ l. Ok l) (only_text bytes fs gs e text)
+read_text bytes gs (Err (breach line fault)) e text = absurd ((verdict_is bytes (Err (breach line fault)) e).1 gs text.is_text text.some text.few)
+
+pub reads_text : (bytes : List ℕ) (gs : List Facet) → (mesh_of bytes ≡ Ok gs) ↔ IsMeshText bytes gs
+reads_text bytes gs = (is_text bytes gs, read_text bytes gs (mesh_of bytes) refl)
+
+read_breach : (bytes : List ℕ) (line : ℕ) (fault : StlFault) (r : Result (List Facet) Breach) → mesh_of bytes ≡ r → IsFirstBreach bytes line fault → r ≡ Err (breach line fault)
+read_breach bytes line fault (Ok fs) e b = absurd (no_breach bytes fs line fault e b)
+read_breach bytes line fault (Err (breach at other)) e b =
+    let s = once (verdict_is bytes (Err (breach at other)) e).0 b in
+    ap (λ (l : ℕ). Err (breach l other)) s.0 ∙ ap (λ (f : StlFault). Err (breach line f)) s.1
+
+pub reads_breach : (bytes : List ℕ) (line : ℕ) (fault : StlFault) → (mesh_of bytes ≡ Err (breach line fault)) ↔ IsFirstBreach bytes line fault
+reads_breach bytes line fault = (λ e. (verdict_is bytes (Err (breach line fault)) e).0, read_breach bytes line fault (mesh_of bytes) refl)

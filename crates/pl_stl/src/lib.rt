@@ -3,10 +3,12 @@
 
 mod fault;
 mod form;
+mod laws;
 pub mod mesh;
 mod read;
 
 pub use fault::StlFault;
+pub use laws::mesh_texts_have_one_reading;
 pub use mesh::{Facet, Mesh, Point3};
 pub use read::read_stl;
 

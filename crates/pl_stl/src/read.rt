@@ -113,6 +113,8 @@ fn read_facets(alloc: Global, bytes: &[u8]) -> Result<Vec<Facet>, Refusal<StlFau
 /// 1 for the empty text.
 pub fn read_stl(alloc: Global, bytes: &[u8]) -> Result<Mesh, Refusal<StlFault>>
     requires { length bytes.now ≤ 2 ^ 28 }
+    // The call answers what reading gives, unless memory runs out.
+    ensures reading { Gives (λ m. m) result (mesh_of bytes.now) }
     ensures mesh { IfOk result (λ m. IsMeshText bytes.now m) }
     // The text of a mesh is read, and no other facets than its own are given, unless memory runs out.
     ensures taken { (facets : List Facet) → IsMeshText bytes.now facets → MatchResult result (λ m. m ≡ facets) (λ e. e ≡ refusals.NoMemory) }

@@ -5,6 +5,6 @@ use Rattle.pl_plater.proofs.transcript.put_transcript.Given as goal
 
 abbrev pub invariant-loop-i : goal.invariant-loop-i
 invariant-loop-i g l = record {
-  put : Appends (g.K.Sink.held l.initial.sink) (g.K.Sink.held l.sink) (entries_text 1 (take l.i l.journal));
+  put : Appends (g.K.Sink.held l.initial.sink) (g.K.Sink.held l.sink) (entries_text g.T.Technology.meaning 1 (take l.i l.journal));
   kept : g.K.Sink.faults l.sink ≡ g.K.Sink.faults l.initial.sink;
 }

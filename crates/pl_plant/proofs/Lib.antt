@@ -1,0 +1,4 @@
+pub mod Stands
+pub mod Commands
+pub mod Clearing
+pub mod Closing

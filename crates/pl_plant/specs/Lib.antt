@@ -1,0 +1,4 @@
+pub mod Planted
+pub mod Keeping
+pub mod Tickets
+pub mod Outcome

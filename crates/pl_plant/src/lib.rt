@@ -1,0 +1,12 @@
+//! The plant: the machine of steps with its journal and the results that are kept.
+#![tactic(auto)]
+
+mod entries;
+mod keeping;
+pub mod plant;
+#[cfg(test)]
+mod tests;
+pub mod ticket;
+
+pub use plant::Plant;
+pub use ticket::{Begun, Ticket};

@@ -1,0 +1,4 @@
+pub mod Entries
+pub mod Free
+pub mod Alone
+pub mod Ways
