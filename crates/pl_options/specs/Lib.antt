@@ -1,0 +1,9 @@
+pub mod KeyMap
+pub mod Lines
+pub mod Reading
+pub mod Settings
+pub use Rattle.pl_keys.specs.Keys
+pub use Rattle.pl_keys.specs.Steps
+pub use Rattle.pl_keys.specs.Table
+pub use Rattle.pl_keys.specs.Trim
+pub use Rattle.pl_keys.specs.Values
