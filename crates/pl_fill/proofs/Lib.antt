@@ -1,2 +1,3 @@
 pub mod LineLemmas
+pub mod SurfaceLemmas
 pub mod Weave

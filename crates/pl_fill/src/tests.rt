@@ -1,5 +1,7 @@
-use crate::strokes;
-use pl_grid::{Axis, Box2, Plane, Stroke};
+use crate::{SurfaceSet, infill_lines, ironing_lines, strokes, support_lines, surfaces};
+use pl_grid::{Axis, Box2, Plane, Planes, Stroke};
+use pl_units::NoMemory;
+use std::alloc::Global;
 use std::test::Fail;
 
 fn stroke(x0: i32, y0: i32, x1: i32, y1: i32) -> Stroke {
@@ -30,5 +32,111 @@ fn a_square_is_filled_there_and_back(rt: HostRuntime) -> Result<(), Fail> {
         along_columns.as_slice(),
         "along columns"
     );
+    Ok(())
+}
+
+/// The plane of a square with a number of columns, all filled or all empty.
+fn square(alloc: Global, cols: u32, filled: bool) -> Result<Plane, NoMemory> {
+    let bounds = Box2 {
+        x0: 0,
+        y0: 0,
+        cols,
+        rows: cols,
+    };
+    let mut plane = Plane::empty(alloc, bounds)?;
+    for y in 0..cols as i32 {
+        for x in 0..cols as i32 {
+            plane.set(x, y, filled);
+        }
+    }
+    Ok(plane)
+}
+
+fn ten_full_layers(alloc: Global) -> Result<Planes, NoMemory> {
+    let mut planes = Vec::new(alloc);
+    for _ in 0..10 {
+        planes.push(square(alloc, 5, true)?)?;
+    }
+    Ok(Planes::of(planes))
+}
+
+fn surfaces_of_layer(alloc: Global, k: u32) -> Result<SurfaceSet, NoMemory> {
+    let slices = ten_full_layers(alloc)?;
+    let inner = ten_full_layers(alloc)?;
+    surfaces(alloc, &slices, &inner, k, 2, 3)
+}
+
+/// The 25 cells of the square are all filled, or all empty, as told.
+fn is_all(plane: &Plane, filled: bool) -> bool {
+    let mut alike = true;
+    for y in 0..5 {
+        for x in 0..5 {
+            alike = alike && plane.get(x, y) == filled;
+        }
+    }
+    alike
+}
+
+#[test]
+fn layers_near_the_bottom_and_the_top_are_solid(rt: HostRuntime) -> Result<(), Fail> {
+    let alloc = rt.alloc();
+    let solid = [
+        true, true, true, false, false, false, false, false, true, true,
+    ];
+    for (k, solid) in solid.iter().enumerate() {
+        let found = surfaces_of_layer(alloc, k as u32)?;
+        assert!(rt; is_all(&found.solid, *solid), "solid cells of layer {k}");
+        assert!(rt; is_all(&found.sparse, !*solid), "sparse cells of layer {k}");
+        assert!(rt; is_all(&found.top, k == 9), "top cells of layer {k}");
+    }
+    Ok(())
+}
+
+#[test]
+fn infill_takes_the_lines_of_its_density(rt: HostRuntime) -> Result<(), Fail> {
+    let alloc = rt.alloc();
+    let fourth = surfaces_of_layer(alloc, 4)?;
+    let sparse = infill_lines(alloc, &fourth, 4, 30)?;
+    let wanted = [stroke(0, 1, 10, 1), stroke(10, 9, 0, 9)];
+    assert_eq!(rt; sparse.as_slice(), wanted.as_slice(), "rows 0 and 4");
+    let none = infill_lines(alloc, &fourth, 4, 0)?;
+    assert!(rt; none.is_empty(), "density 0");
+    let ninth = surfaces_of_layer(alloc, 9)?;
+    let solid = infill_lines(alloc, &ninth, 9, 0)?;
+    assert_eq!(rt; solid.len(), 5, "solid cells at density 0");
+    Ok(())
+}
+
+#[test]
+fn ironing_goes_over_each_column_of_an_odd_top(rt: HostRuntime) -> Result<(), Fail> {
+    let alloc = rt.alloc();
+    let ninth = surfaces_of_layer(alloc, 9)?;
+    let lines = ironing_lines(alloc, &ninth.top, 9)?;
+    let wanted = [
+        stroke(1, 0, 1, 10),
+        stroke(3, 10, 3, 0),
+        stroke(5, 0, 5, 10),
+        stroke(7, 10, 7, 0),
+        stroke(9, 0, 9, 10),
+    ];
+    assert_eq!(rt; lines.as_slice(), wanted.as_slice(), "five columns");
+    Ok(())
+}
+
+#[test]
+fn support_takes_each_second_column_of_an_odd_layer(rt: HostRuntime) -> Result<(), Fail> {
+    let alloc = rt.alloc();
+    let bounds = Box2 {
+        x0: 0,
+        y0: 0,
+        cols: 5,
+        rows: 1,
+    };
+    let mut cells = Plane::empty(alloc, bounds)?;
+    cells.set(0, 0, true);
+    cells.set(4, 0, true);
+    let lines = support_lines(alloc, &cells, 1)?;
+    let wanted = [stroke(1, 0, 1, 2), stroke(9, 2, 9, 0)];
+    assert_eq!(rt; lines.as_slice(), wanted.as_slice(), "columns 0 and 4");
     Ok(())
 }
