@@ -80,10 +80,11 @@ fn top_cells(alloc: Global, inner: &Plane, slices: &[Plane], k: usize) -> Result
     requires layer { k < length slices.now }
     ensures { IfOk result (λ p. p ≡ top_of slices.now inner.now k) }
 {
-    if slices.len() <= k + 1 {
+    let above = k + 1;
+    if slices.len() <= above {
         return whole(alloc, inner);
     }
-    inner.minus(alloc, &slices[k + 1])
+    inner.minus(alloc, &slices[above])
 }
 
 /// The cells of a plane that one of the layers lacks.

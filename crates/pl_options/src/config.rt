@@ -60,7 +60,7 @@ impl Config {
         self.values.get(key).unwrap()
     }
 
-    /// Gives an option a value, of the right kind and in its range. The other options keep theirs, and no memory is taken.
+    /// Gives an option a value, of the right kind and in its range. The other options keep theirs; it cannot fail.
     pub fn put(&mut self, key: Key, value: Value)
         requires { IsValueOf key value }
         ensures put { self.new ≡ map.insert self.old key value }
@@ -70,7 +70,7 @@ impl Config {
         self.values.put(key, value).unwrap()
     }
 
-    /// Puts all values of a settings text. The other options keep theirs, and no memory is taken.
+    /// Puts all values of a settings text. The other options keep theirs; it cannot fail.
     pub fn put_all(&mut self, set: IniSet)
         ensures { (key : Key) → map.get self.new key ≡ option_or (map.get set.values key) (map.get self.old key) }
     {

@@ -45,7 +45,7 @@ impl Values {
         self.entries.get(&key)
     }
 
-    /// Gives a key a value. A key that has one already takes no memory; after want of memory nothing is changed.
+    /// Gives a key a value. It cannot fail at a key that has one already; after want of memory nothing is changed.
     pub(crate) fn put(&mut self, key: Key, value: Value) -> Result<(), NoMemory>
         ensures ok { OnOk result (self.new ≡ map.insert self.old key value) }
         ensures err { OnErr result (self.new ≡ self.old) }
