@@ -1,3 +1,6 @@
+ghost use Rattle.std.specs.Prelude.{◌≡◌, ◌<◌, length, pos, IfOk};
+ghost use Rattle.std.specs.List.{All};
+
 use crate::{SurfaceSet, infill_lines, ironing_lines, strokes, support_lines, surfaces};
 use pl_grid::{Axis, Box2, Plane, Planes, Stroke};
 use pl_units::NoMemory;
@@ -35,32 +38,36 @@ fn a_square_is_filled_there_and_back(rt: HostRuntime) -> Result<(), Fail> {
     Ok(())
 }
 
-/// The plane of a square with a number of columns, all filled or all empty.
-fn square(alloc: Global, cols: u32, filled: bool) -> Result<Plane, NoMemory> {
+/// The plane of five columns and rows that is all filled: it grows from its middle.
+fn full_square(alloc: Global) -> Result<Plane, NoMemory>
+    ensures { IfOk result (λ p. p.bounds ≡ record { x0 = pos 0; y0 = pos 0; cols = 5; rows = 5 }) }
+{
     let bounds = Box2 {
         x0: 0,
         y0: 0,
-        cols,
-        rows: cols,
+        cols: 5,
+        rows: 5,
     };
-    let mut plane = Plane::empty(alloc, bounds)?;
-    for y in 0..cols as i32 {
-        for x in 0..cols as i32 {
-            plane.set(x, y, filled);
-        }
-    }
-    Ok(plane)
+    let mut middle = Plane::empty(alloc, bounds)?;
+    middle.set(2, 2, true);
+    let grown = middle.dilate(alloc)?.dilate(alloc)?;
+    grown.dilate(alloc)?.dilate(alloc)
 }
 
-fn ten_full_layers(alloc: Global) -> Result<Planes, NoMemory> {
+fn ten_full_layers(alloc: Global) -> Result<Planes, NoMemory>
+    ensures count { IfOk result (λ ps. length ps ≡ 10) }
+    ensures boxes { IfOk result (λ ps. All (λ p. p.bounds ≡ record { x0 = pos 0; y0 = pos 0; cols = 5; rows = 5 }) ps) }
+{
     let mut planes = Vec::new(alloc);
-    for _ in 0..10 {
-        planes.push(square(alloc, 5, true)?)?;
+    for _layer in 0..10usize {
+        planes.push(full_square(alloc)?)?;
     }
     Ok(Planes::of(planes))
 }
 
-fn surfaces_of_layer(alloc: Global, k: u32) -> Result<SurfaceSet, NoMemory> {
+fn surfaces_of_layer(alloc: Global, k: u32) -> Result<SurfaceSet, NoMemory>
+    requires { k < 10 }
+{
     let slices = ten_full_layers(alloc)?;
     let inner = ten_full_layers(alloc)?;
     surfaces(alloc, &slices, &inner, k, 2, 3)

@@ -1,11 +1,15 @@
+ghost use Rattle.std.specs.Prelude.{◌≡◌, pos, IfOk, AllPairs};
+
 use crate::support;
 use pl_grid::{Box2, Plane, Planes};
 use pl_units::NoMemory;
 use std::alloc::Global;
 use std::test::Fail;
 
-/// A plane of five cells in a row, with these filled.
-fn row(alloc: Global, filled: &[i32]) -> Result<Plane, NoMemory> {
+/// A plane of five cells in a row.
+fn row(alloc: Global, cells: &[bool; 5]) -> Result<Plane, NoMemory>
+    ensures { IfOk result (λ p. p.bounds ≡ record { x0 = pos 0; y0 = pos 0; cols = 5; rows = 1 }) }
+{
     let bounds = Box2 {
         x0: 0,
         y0: 0,
@@ -13,18 +17,20 @@ fn row(alloc: Global, filled: &[i32]) -> Result<Plane, NoMemory> {
         rows: 1,
     };
     let mut plane = Plane::empty(alloc, bounds)?;
-    for x in filled {
-        if (0..5).contains(x) {
-            plane.set(*x, 0, true);
-        }
-    }
+    plane.set(0, 0, cells[0]);
+    plane.set(1, 0, cells[1]);
+    plane.set(2, 0, cells[2]);
+    plane.set(3, 0, cells[3]);
+    plane.set(4, 0, cells[4]);
     Ok(plane)
 }
 
-fn rows(alloc: Global, layers: &[&[i32]]) -> Result<Planes, NoMemory> {
+fn rows(alloc: Global, layers: &[[bool; 5]; 4]) -> Result<Planes, NoMemory>
+    ensures { IfOk result (λ ps. AllPairs (λ p q. p.bounds ≡ q.bounds) ps) }
+{
     let mut planes = Vec::new(alloc);
-    for filled in layers {
-        planes.push(row(alloc, filled)?)?;
+    for cells in layers {
+        planes.push(row(alloc, cells)?)?;
     }
     Ok(Planes::of(planes))
 }
@@ -36,16 +42,27 @@ fn are_cells(plane: &Plane, filled: &[i32]) -> bool {
 #[test]
 fn support_stands_below_overhangs(rt: HostRuntime) -> Result<(), Fail> {
     let alloc = rt.alloc();
-    let first = rows(alloc, &[&[2, 3, 4], &[2], &[2], &[0, 1, 2, 3, 4]])?;
-    let further = rows(alloc, &[&[2, 3], &[2, 4], &[2], &[0, 1, 2, 3, 4]])?;
-    let cases: [(&str, &Planes, bool, bool, [&[i32]; 4]); 4] = [
+    let first = [
+        [false, false, true, true, true],
+        [false, false, true, false, false],
+        [false, false, true, false, false],
+        [true; 5],
+    ];
+    let further = [
+        [false, false, true, true, false],
+        [false, false, true, false, true],
+        [false, false, true, false, false],
+        [true; 5],
+    ];
+    let cases: [(&str, &[[bool; 5]; 4], bool, bool, [&[i32]; 4]); 4] = [
         ("on", &first, true, false, [&[0], &[0, 4], &[0, 4], &[]]),
         ("plate only", &first, true, true, [&[0], &[0], &[0], &[]]),
         ("off", &first, false, true, [&[], &[], &[], &[]]),
         ("further", &further, true, false, [&[0], &[0], &[0, 4], &[]]),
     ];
-    for (name, slices, on, plate_only, wanted) in &cases {
-        let found = support(alloc, slices, *on, *plate_only)?;
+    for (name, layers, on, plate_only, wanted) in &cases {
+        let slices = rows(alloc, layers)?;
+        let found = support(alloc, &slices, *on, *plate_only)?;
         assert_eq!(rt; found.planes().len(), 4, "{name}: layers");
         for (k, filled) in wanted.iter().enumerate() {
             assert!(rt; are_cells(&found.planes()[k], filled), "{name}: layer {k}");

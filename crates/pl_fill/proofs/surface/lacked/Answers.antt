@@ -1,4 +1,4 @@
-use Rattle.std.proofs.Common.{◌≡◌, ◌≤◌, ◌∙◌, ap, length, arith}
+use Rattle.std.proofs.Common.{◌≤◌, ◌∙◌, ap, length, arith}
 use Rattle.std.proofs.lemmas.List.{take_all}
 use Rattle.pl_grid.specs.Planes.{plane_of}
 use Rattle.pl_fill.proofs.SurfaceLemmas.{lacked_test, lacked_more}
