@@ -1,0 +1,14 @@
+use Rattle.std.proofs.Common.{◌≡◌}
+use Rattle.pl_text.specs.Script.{after_head}
+use Rattle.pl_text.specs.Reading.{lines_left, number_left, size_left, HasRoom}
+use Rattle.pl_text.proofs.read.after_head.Given as goal
+
+abbrev pub invariant-loop-line : goal.invariant-loop-line
+invariant-loop-line l = record {
+  same : after_head (number_left l.fn.lines) (lines_left l.fn.lines) ≡ after_head (number_left l.lines) (lines_left l.lines);
+  room : HasRoom l.lines;
+  here : l.here ≡ l.lines;
+}
+
+abbrev pub decreases-loop-line : goal.decreases-loop-line
+decreases-loop-line l = size_left l.lines

@@ -1,0 +1,323 @@
+// Reads a script.
+ghost use Rattle.std.specs.Prelude.{◌≡◌, ◌+◌, ◌≤◌, ◌^◌, ℕ, List, [], ◌∷◌, ◌++◌, length, IfOk, IfErr, IfSome, OnOk, OnSome, Ok, None};
+ghost use Rattle.pl_units.specs.declared.Refusal.TheVariants as refusals;
+ghost use Rattle.pl_text.specs.declared.order.Block.{Block};
+ghost use Rattle.std.specs.Option.{option_map};
+ghost use Rattle.pl_text.specs.Outcomes.{and_then, mapped};
+ghost use Rattle.pl_text.specs.Lines.{words_of, line_words};
+ghost use Rattle.pl_text.specs.Orders.{block_named};
+ghost use Rattle.pl_text.specs.Script.{at, script_of, after_head, at_workers, body_in, commands_in, with_workers, workers_in, is_head, is_data, data_name, block_in, body_of, with_ends, is_block_end, IsShortBlock, AreLines};
+ghost use Rattle.pl_text.specs.Reading.{lines_left, size_left, number_left, HasRoom, IsAfterBlock, IsTaken, IsOther, Answers, Stops, Refuses, Gives};
+
+use crate::fault::{LineStop, ScriptFault};
+use crate::forms::is_name;
+use crate::line::command_of;
+use crate::lines::LinesLeft;
+use crate::numbers::small_of;
+use crate::order::Block;
+use crate::script::{Blocks, Lines, ScriptLine, ScriptText};
+use crate::words::{is_passed_over, line_text, next_word, one_word, two_words};
+use pl_units::{NoMemory, Refusal, Shared, Text};
+use std::alloc::Global;
+use std::sync::Arc;
+
+/// The script of a text: the head `plater 1`; perhaps a line `workers N`; blocks; command lines `S COMMAND`. A text that is
+/// none is refused at its first breach, with the breach's line counted from 1.
+pub fn read_text(alloc: Global, bytes: &[u8]) -> Result<ScriptText, Refusal<ScriptFault>>
+    requires { length bytes.now ≤ 2 ^ 28 }
+    // The call answers what the text says, unless memory runs out.
+    ensures reading { Gives result (script_of bytes.now) }
+{
+    let mut lines = LinesLeft::of(bytes);
+    match lines.next() {
+        Some(head) if is_head(line_text(head)) => after_head(alloc, lines),
+        _ => Err(Refusal::Fault {
+            line: 1,
+            fault: ScriptFault::NoHead,
+        }),
+    }
+}
+
+// Whether a line without its end is the head.
+fn is_head(text: &[u8]) -> bool
+    ensures { result ≡ is_head (words_of text.now) }
+{
+    match two_words(text) {
+        Some((word, version)) => word == b"plater".as_slice() && version == b"1".as_slice(),
+        None => false,
+    }
+}
+
+// The script whose lines after the head these are.
+fn after_head(alloc: Global, mut lines: LinesLeft<'_>) -> Result<ScriptText, Refusal<ScriptFault>>
+    requires { HasRoom lines }
+    ensures { Gives result (after_head (number_left lines.entry) (lines_left lines.entry)) }
+{
+    let mut here = lines;
+    while let Some(line) = lines.next() {
+        if !is_passed_over(line) {
+            return at_workers(alloc, line, here, lines);
+        }
+        here = lines;
+    }
+    body_in(alloc, 0, lines)
+}
+
+// The number of workers in a line, or that it is another line.
+fn workers_in(line: &[u8]) -> Result<Option<u8>, ScriptFault>
+    ensures workers { result ≡ workers_in (line_words line.now) }
+    ensures few { IfOk result (λ found. IfSome found (λ workers. workers ≤ 8)) }
+{
+    let Some((word, rest)) = next_word(line_text(line)) else {
+        return Ok(None);
+    };
+    if word != b"workers".as_slice() {
+        return Ok(None);
+    }
+    let Some(number) = one_word(rest) else {
+        return Err(ScriptFault::BadLine);
+    };
+    match small_of(8, number) {
+        Some(workers) => Ok(Some(workers)),
+        None => Err(ScriptFault::BadLine),
+    }
+}
+
+// The script from a line on that is not passed over: here, with the lines after it.
+fn at_workers(
+    alloc: Global,
+    line: &[u8],
+    here: LinesLeft<'_>,
+    lines: LinesLeft<'_>,
+) -> Result<ScriptText, Refusal<ScriptFault>>
+    requires here { HasRoom here }
+    requires room { HasRoom lines }
+    requires line { lines_left here ≡ line.now ∷ lines_left lines }
+    requires number { number_left lines ≡ number_left here + 1 }
+    ensures { Gives result (and_then (at (number_left here.entry) (workers_in (line_words line.now)))
+        (λ found. at_workers found (number_left here.entry) line.now (lines_left lines.entry))) }
+{
+    match workers_in(line) {
+        Ok(Some(workers)) => body_in(alloc, workers, lines),
+        Ok(None) => body_in(alloc, 0, here),
+        Err(fault) => Err(Refusal::Fault {
+            line: here.number(),
+            fault,
+        }),
+    }
+}
+
+// The script of so many workers whose blocks and commands these lines are.
+fn body_in(
+    alloc: Global,
+    workers: u8,
+    mut lines: LinesLeft<'_>,
+) -> Result<ScriptText, Refusal<ScriptFault>>
+    requires few { workers ≤ 8 }
+    requires room { HasRoom lines }
+    ensures { Gives result (with_workers workers (body_in 0 (number_left lines.entry) [] (lines_left lines.entry))) }
+{
+    let mut blocks = Blocks::none(alloc);
+    let mut here = lines;
+    while let Some(line) = lines.next() {
+        let taken = block_line(alloc, &mut blocks, line, here.number(), &mut lines)?;
+        if !taken {
+            return with_commands(alloc, workers, blocks, here);
+        }
+        here = lines;
+    }
+    with_commands(alloc, workers, blocks, here)
+}
+
+// Passes over a line, or takes the block that it begins; not so where the line does neither. The lines are those after it.
+fn block_line(
+    alloc: Global,
+    blocks: &mut Blocks,
+    line: &[u8],
+    number: u32,
+    lines: &mut LinesLeft<'_>,
+) -> Result<bool, Refusal<ScriptFault>>
+    requires room { HasRoom lines.old }
+    requires number { number_left lines.old ≡ number + 1 }
+    ensures taken { IfOk result (λ taken. IsTaken taken (body_in 0 number blocks.old (line.now ∷ lines_left lines.old)) (body_in 0 (number_left lines.new) blocks.new (lines_left lines.new))) }
+    ensures other { IfOk result (λ taken. IsOther taken (body_in 0 number blocks.old (line.now ∷ lines_left lines.old))
+        (mapped (λ found. (blocks.new, found)) (commands_in blocks.new 0 number (line.now ∷ lines_left lines.old)))) }
+    ensures refused { IfErr result (λ e. Refuses e (body_in 0 number blocks.old (line.now ∷ lines_left lines.old))) }
+    ensures room { OnOk result (HasRoom lines.new) }
+    ensures size { size_left lines.new ≤ size_left lines.old }
+{
+    if is_passed_over(line) {
+        return Ok(true);
+    }
+    if !is_data(line) {
+        return Ok(false);
+    }
+    match take_block(alloc, blocks, line, lines) {
+        Ok(()) => Ok(true),
+        Err(stop) => Err(stop.at(number)),
+    }
+}
+
+// Puts the block of a data line, whose lines come next, after the others.
+fn take_block(
+    alloc: Global,
+    blocks: &mut Blocks,
+    line: &[u8],
+    lines: &mut LinesLeft<'_>,
+) -> Result<(), LineStop>
+    requires { HasRoom lines.old }
+    ensures taken { OnOk result ((block : Block) × (block_in blocks.old (line_words line.now) (lines_left lines.old) ≡ Ok block) × (blocks.new ≡ blocks.old ++ block ∷ [])) }
+    ensures refused { IfErr result (λ stop. Stops stop (block_in blocks.old (line_words line.now) (lines_left lines.old))) }
+    ensures rest { OnOk result (IsAfterBlock lines.old lines.new) }
+    ensures size { size_left lines.new ≤ size_left lines.old }
+{
+    let block = block_in(alloc, blocks, line, lines)?;
+    blocks.add(block)?;
+    Ok(())
+}
+
+// Whether a line is a data line.
+fn is_data(line: &[u8]) -> bool
+    ensures { result ≡ is_data (line_words line.now) }
+{
+    match next_word(line_text(line)) {
+        Some((word, _)) => word == b"data".as_slice(),
+        None => false,
+    }
+}
+
+// The name in a data line.
+fn data_name(line: &[u8]) -> Result<&[u8], ScriptFault>
+    ensures { mapped (λ name. name.now) result ≡ data_name (line_words line.now) }
+{
+    match two_words(line_text(line)) {
+        Some((_, name)) if is_name(name) => Ok(name),
+        _ => Err(ScriptFault::BadLine),
+    }
+}
+
+// The block of a data line whose lines come next, after these blocks.
+fn block_in(
+    alloc: Global,
+    blocks: &Blocks,
+    line: &[u8],
+    lines: &mut LinesLeft<'_>,
+) -> Result<Shared<Block>, LineStop>
+    requires { HasRoom lines.old }
+    ensures block { Answers result (block_in blocks.now (line_words line.now) (lines_left lines.old)) }
+    ensures fresh { IfOk result (λ block. block_named blocks.now block.name ≡ None) }
+    ensures short { IfOk result IsShortBlock }
+    ensures rest { OnOk result (IsAfterBlock lines.old lines.new) }
+    ensures size { size_left lines.new ≤ size_left lines.old }
+{
+    let name = match data_name(line) {
+        Ok(name) => name,
+        Err(fault) => return Err(LineStop::Fault(fault)),
+    };
+    if blocks.named(name).is_some() {
+        return Err(LineStop::Fault(ScriptFault::SameData));
+    }
+    let Some(bytes) = body_of(alloc, lines)? else {
+        return Err(LineStop::Fault(ScriptFault::CutData));
+    };
+    let name = Text::copy_of(alloc, name)?;
+    match Arc::new(alloc, Block { name, bytes }) {
+        Ok(block) => Ok(Shared::of(block)),
+        Err(_) => Err(LineStop::NoMemory),
+    }
+}
+
+// The bytes of the lines up to the next line `.end`, if such a line comes.
+fn body_of(alloc: Global, lines: &mut LinesLeft<'_>) -> Result<Option<Text>, NoMemory>
+    requires { HasRoom lines.old }
+    ensures body { IfOk result (λ found. found ≡ option_map (λ body. with_ends body) (body_of (lines_left lines.old))) }
+    ensures rest { IfOk result (λ found. OnSome found (IsAfterBlock lines.old lines.new)) }
+    ensures short { IfOk result (λ found. IfSome found (λ bytes. length bytes ≤ 2 ^ 28)) }
+    ensures size { size_left lines.new ≤ size_left lines.old }
+{
+    let mut bytes = Text::copy_of(alloc, &[])?;
+    while let Some(line) = lines.next() {
+        if is_block_end(line) {
+            return Ok(Some(bytes));
+        }
+        bytes.append(line)?;
+        bytes.append(b"\n")?;
+    }
+    Ok(None)
+}
+
+// Whether a line is `.end`, perhaps with one byte 13.
+fn is_block_end(line: &[u8]) -> bool
+    ensures { result ≡ is_block_end line.now }
+{
+    line_text(line) == b".end".as_slice()
+}
+
+// The script of so many workers and of these blocks whose command lines these are.
+fn with_commands(
+    alloc: Global,
+    workers: u8,
+    blocks: Blocks,
+    lines: LinesLeft<'_>,
+) -> Result<ScriptText, Refusal<ScriptFault>>
+    requires few { workers ≤ 8 }
+    requires room { HasRoom lines }
+    ensures { Gives result (with_workers workers (mapped (λ found. (blocks, found)) (commands_in blocks 0 (number_left lines.entry) (lines_left lines.entry)))) }
+{
+    let lines = commands_in(alloc, &blocks, lines)?;
+    Ok(ScriptText::of(workers, blocks, lines))
+}
+
+// The command lines in these lines.
+fn commands_in(
+    alloc: Global,
+    blocks: &Blocks,
+    mut lines: LinesLeft<'_>,
+) -> Result<Lines, Refusal<ScriptFault>>
+    requires { HasRoom lines }
+    ensures { Gives result (commands_in blocks.now 0 (number_left lines.entry) (lines_left lines.entry)) }
+{
+    let mut found = Vec::new(alloc);
+    let mut number = lines.number();
+    while let Some(line) = lines.next() {
+        take_line(alloc, blocks, &mut found, line, number)?;
+        number = lines.number();
+    }
+    Ok(Lines::of(found))
+}
+
+// Passes over a line, or puts its command after the others.
+fn take_line(
+    alloc: Global,
+    blocks: &Blocks,
+    found: &mut Vec<ScriptLine>,
+    line: &[u8],
+    number: u32,
+) -> Result<(), Refusal<ScriptFault>>
+    requires short { length line.now ≤ 2 ^ 28 }
+    requires lines { AreLines found.old.items }
+    ensures ok { OnOk result ((rest : List (List ℕ)) →
+        mapped (λ more. found.old.items ++ more) (commands_in blocks.now (length found.old.items) number (line.now ∷ rest))
+        ≡ mapped (λ more. found.new.items ++ more) (commands_in blocks.now (length found.new.items) (number + 1) rest)) }
+    ensures err { IfErr result (λ e. (rest : List (List ℕ)) → Refuses e (commands_in blocks.now (length found.old.items) number (line.now ∷ rest))) }
+    ensures lines { OnOk result (AreLines found.new.items) }
+{
+    if is_passed_over(line) {
+        return Ok(());
+    }
+    match command_of(alloc, blocks, found.len(), number, line_text(line)) {
+        Ok(line) => add_line(found, line),
+        Err(stop) => Err(stop.at(number)),
+    }
+}
+
+// Puts a command line after the others.
+fn add_line(found: &mut Vec<ScriptLine>, line: ScriptLine) -> Result<(), Refusal<ScriptFault>>
+    ensures ok { OnOk result (found.new.items ≡ found.old.items ++ line ∷ []) }
+    ensures err { IfErr result (λ e. e ≡ refusals.NoMemory) }
+{
+    match found.push(line) {
+        Ok(()) => Ok(()),
+        Err(_) => Err(Refusal::NoMemory),
+    }
+}
