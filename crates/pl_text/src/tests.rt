@@ -1,7 +1,16 @@
 //! Scripts that are read, and texts that are none.
-use crate::{Order, ScriptFault, read_text};
+use crate::{Order, ScriptFault, ScriptText, read_text};
 use pl_units::{Nm, Refusal};
+use std::alloc::Global;
 use std::test::Fail;
+
+// Reads a text of a test.
+fn read(alloc: Global, text: &[u8]) -> Result<Result<ScriptText, Refusal<ScriptFault>>, Fail> {
+    if text.len() > 1_000_000 {
+        return Err(Fail::from("a long text"));
+    }
+    Ok(read_text(alloc, text))
+}
 
 #[test]
 fn faults_are_told_by_their_names(rt: HostRuntime) -> Result<(), Fail> {
@@ -91,7 +100,7 @@ fn first_breaches_are_named_at_their_lines(rt: HostRuntime) -> Result<(), Fail> 
         ),
     ];
     for (text, line, fault) in rows {
-        let Err(refusal) = read_text(rt.alloc(), text) else {
+        let Err(refusal) = read(rt.alloc(), text)? else {
             return Err(Fail::from("a text was taken"));
         };
         assert_eq!(rt;
@@ -107,7 +116,7 @@ fn first_breaches_are_named_at_their_lines(rt: HostRuntime) -> Result<(), Fail> 
 fn blocks_and_commands_are_read(rt: HostRuntime) -> Result<(), Fail> {
     let text =
         b"plater \t1\r\n\nworkers 2\n# data\ndata a\nsolid\r\n\nend\n.end\r\n \t2 load cube a\r\n16 move 0 255 1.5 -2\n1 set notes  a \x0b b \r\n3 after 16 10000";
-    let script = read_text(rt.alloc(), text).ok().ok_or("refused")?;
+    let script = read(rt.alloc(), text)?.ok().ok_or("refused")?;
     assert_eq!(rt; script.workers(), 2);
     assert_eq!(rt; script.blocks().all().len(), 1);
     let [load, shift, set, after] = script.lines().all() else {
@@ -150,10 +159,10 @@ fn ten_thousand_commands_are_taken_and_no_more(rt: HostRuntime) -> Result<(), Fa
     for _ in 0..10_000 {
         text.extend_from_slice(b"1 apply\n")?;
     }
-    let script = read_text(rt.alloc(), &text).ok().ok_or("refused")?;
+    let script = read(rt.alloc(), &text)?.ok().ok_or("refused")?;
     assert_eq!(rt; script.lines().all().len(), 10_000);
     text.extend_from_slice(b"1 apply\n")?;
-    let Err(refusal) = read_text(rt.alloc(), &text) else {
+    let Err(refusal) = read(rt.alloc(), &text)? else {
         return Err(Fail::from("a text was taken"));
     };
     let expected = Refusal::Fault {
