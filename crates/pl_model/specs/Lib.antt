@@ -1,0 +1,11 @@
+pub mod Shifts
+pub mod Places
+pub mod Contents
+pub mod Settings
+pub mod Finding
+pub mod Outcomes
+pub mod Changes
+pub mod Effective
+pub mod Problem
+pub mod Stops
+pub mod Same
