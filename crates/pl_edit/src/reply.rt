@@ -3,8 +3,7 @@ use pl_options::IniFault;
 use pl_stl::StlFault;
 use thiserror::Error;
 
-/// Why an edit was refused; the plate is as before. Where several hold, the first of this order is named, but that a block
-/// that is no mesh text comes before full places.
+/// Why an edit was refused; the plate is as before. Where several hold, the first of this order is named.
 #[derive(Clone, Copy, Debug, PartialEq, Eq, Error)]
 pub enum EditRefusal {
     /// No object is at the place.
@@ -47,12 +46,17 @@ pub enum EditRefusal {
 pub enum EditReply {
     /// The edit is made.
     Done,
-    /// The mesh fills this place.
+    /// The mesh fills this place, from 0 to 15.
     Object(u8),
-    /// The new instance has this number.
+    /// The new instance has this number, from 1 to 15.
     Instance(u8),
     /// So many lines of the settings text have a key of the table, and so many another key.
-    Set { taken: u32, passed: u32 },
+    Set {
+        /// Lines with a key of the table.
+        taken: u32,
+        /// Lines with another key.
+        passed: u32,
+    },
     /// Nothing changed.
     Refused(EditRefusal),
 }

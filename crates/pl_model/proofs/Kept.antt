@@ -16,11 +16,11 @@ use Rattle.pl_edit.specs.declared.reply.EditRefusal.{EditRefusal}
 use Rattle.pl_edit.specs.declared.reply.EditRefusal.TheVariants.{NoObject}
 use Rattle.pl_model.specs.declared.stop.Stop.{Stop}
 use Rattle.pl_model.specs.declared.stop.Stop.TheVariants.{Refused, NoMemory}
-use Rattle.pl_model.specs.Contents.{Contents}
+use Rattle.pl_model.specs.Contents.{Contents, with_place}
 use Rattle.pl_edit.specs.Data.{Data}
 use Rattle.pl_model.specs.Settings.{put_over}
 use Rattle.pl_model.specs.Finding.{object_at, ini_in}
-use Rattle.pl_model.specs.Outcomes.{Outcome, Changed, given, with_place, in_object, configured}
+use Rattle.pl_model.specs.Outcomes.{Changed, given, in_object, configured}
 use Rattle.pl_model.specs.Stops.{Makes, Changes}
 
 set_twice : {X : Type 0} (xs : List X) (i : ℕ) (x y : X) → slice_set (slice_set xs i x) i y ≡ slice_set xs i y

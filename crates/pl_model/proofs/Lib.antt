@@ -4,3 +4,7 @@ pub mod Lists
 pub mod Problems
 pub mod Plates
 pub mod Same
+pub mod Positions
+pub mod Edits
+pub mod Printing
+pub mod SamePlates

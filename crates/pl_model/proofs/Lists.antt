@@ -1,7 +1,6 @@
--- Two lists, item by item.
-use Rattle.std.proofs.Common.{◌≡◌, ◌≢◌, ◌↔◌, IsTrue, Bool, true, false, ℕ, zero, suc, ◌+◌, ◌<◌, ◌≤◌, arith, add-one, drop-cons, List, [], ◌∷◌, ◌++◌, length, take, drop, slice_index_or, refl, sym, ap, ◌∙◌}
+-- Lists, item by item.
+use Rattle.std.proofs.Common.{◌≡◌, ◌≢◌, ℕ, zero, suc, ◌+◌, ◌<◌, ◌≤◌, arith, add-one, drop-cons, List, [], ◌∷◌, ◌++◌, length, take, drop, slice_index_or, slice_get, remove, refl, sym, ap, ◌∙◌}
 use Rattle.std.proofs.lemmas.List.{take_more}
-use Rattle.std.proofs.lemmas.Bool.{false≢true}
 
 module _ {X : Type 0} where
   pub drop_here : (xs : List X) (i : ℕ) (d : X) → i < length xs → drop i xs ≡ slice_index_or xs i d ∷ drop (i + 1) xs
@@ -33,3 +32,21 @@ module _ {X : Type 0} where
 
   pub all_same : (xs ys : List X) (n : ℕ) → length xs ≡ length ys → length xs ≤ n → take n xs ≡ take n ys → xs ≡ ys
   all_same xs ys n l h t = sym (take_all xs n h) ∙ t ∙ take_all ys n (omega arith)
+
+  -- what stands behind an item that is taken out moves down by one
+  pub removed_earlier : (xs : List X) (n k : ℕ) → k < n → slice_get (remove xs n) k ≡ slice_get xs k
+  removed_earlier [] zero k h = refl
+  removed_earlier [] (suc n) k h = refl
+  removed_earlier (x ∷ xs) zero k h = absurd (omega arith)
+  removed_earlier (x ∷ xs) (suc n) zero h = refl
+  removed_earlier (x ∷ xs) (suc n) (suc k) h = removed_earlier xs n k (omega arith)
+
+  next_item : (x : X) (xs : List X) (k : ℕ) → slice_get (x ∷ xs) (k + 1) ≡ slice_get xs k
+  next_item x xs k = rw add-one refl
+
+  pub removed_later : (xs : List X) (n k : ℕ) → n ≤ k → slice_get (remove xs n) k ≡ slice_get xs (k + 1)
+  removed_later [] zero k h = refl
+  removed_later [] (suc n) k h = refl
+  removed_later (x ∷ xs) zero k h = sym (next_item x xs k)
+  removed_later (x ∷ xs) (suc n) zero h = absurd (omega arith)
+  removed_later (x ∷ xs) (suc n) (suc k) h = removed_later xs n k (omega arith) ∙ sym (next_item x xs (k + 1)) ∙ ap (slice_get (x ∷ xs)) (omega arith)

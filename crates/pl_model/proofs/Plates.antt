@@ -1,5 +1,5 @@
 -- The plate at the start, and the objects of equal places.
-use Rattle.std.proofs.Common.{◌≡◌, List, Option, None, Some, replicate, length, map, refl, sym, ap, ◌∙◌}
+use Rattle.std.proofs.Common.{◌≡◌, List, Option, None, Some, replicate, length, map, sym, ap, ◌∙◌}
 use Rattle.std.specs.FinMap.{get, get-from_entries}
 use Rattle.std.proofs.lemmas.List.{length-replicate}
 use Rattle.std.proofs.lemmas.List.Elements.{All-same, All-replicate}
@@ -7,7 +7,7 @@ use Rattle.pl_keys.specs.declared.key.Key.{Key}
 use Rattle.pl_keys.specs.declared.key.Key.TheVariants as k
 use Rattle.pl_keys.specs.Keys.{keys}
 use Rattle.pl_keys.specs.Values.{default_of}
-use Rattle.pl_options.specs.KeyMap.{KeyMap, key_cmp, IsDefaults}
+use Rattle.pl_options.specs.KeyMap.{IsDefaults}
 use Rattle.pl_options.proofs.KeyMaps.{key_cmp_total, same_values}
 use Rattle.pl_model.specs.declared.object.Object.{Object}
 use Rattle.pl_model.specs.Places.{IsTurned, ArePlaces}

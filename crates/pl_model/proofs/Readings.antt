@@ -1,12 +1,12 @@
 -- A text has one reading: its settings, or its first breach.
-use Rattle.std.proofs.Common.{◌≡◌, ◌↔◌, ℕ, ◌+◌, ◌⊎◌, inl, inr, arith, List, [], ◌∷◌, ◌++◌, length, map, All, Result, Ok, Err, refl, sym, ap, ◌∙◌}
+use Rattle.std.proofs.Common.{◌≡◌, ℕ, ◌+◌, ◌⊎◌, inl, inr, arith, List, [], ◌∷◌, ◌++◌, length, map, All, Result, Ok, Err, refl, sym, ap, ◌∙◌}
 use Rattle.std.specs.Result.{IsOk, is_ok}
 use Rattle.std.proofs.lemmas.Bool.{false≢true}
 use Rattle.std.proofs.lemmas.List.Elements.{All-nil, All-cons, All-head, All-tail}
 use Rattle.pl_options.specs.declared.fault.IniFault.{IniFault}
 use Rattle.pl_options.specs.Lines.{lines_of, line_of}
 use Rattle.pl_options.specs.Settings.{Settings, settings_of, IsSettingsText, IsFirstBreach}
-use Rattle.pl_model.specs.Settings.{IniBreach, breach, before, said_from, settings_by, ini_of}
+use Rattle.pl_model.specs.Settings.{breach, before, said_from, settings_by, ini_of}
 
 ok_value : {X F : Type 0} (r : Result X F) → IsOk r → (x : X) × (r ≡ Ok x)
 ok_value (Ok x) h = (x, refl)

@@ -1,5 +1,5 @@
 -- The value of an option that holds for an object: its own, else the configuration's.
-use Rattle.std.specs.Prelude.{ℕ, List, Option, Some, None}
+use Rattle.std.specs.Prelude.{ℕ, Option}
 use Rattle.std.specs.Option.{option_or, option_and_then}
 use Rattle.std.specs.FinMap.{get}
 use Rattle.pl_keys.specs.declared.key.Key.{Key}

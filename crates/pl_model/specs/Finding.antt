@@ -1,5 +1,5 @@
 -- What an edit names, or why it is refused.
-use Rattle.std.specs.Prelude.{ℕ, ◌==◌, nat_lt, if◌then◌else◌, Option, Result, Ok, Err, List, length, slice_get, position, is_some}
+use Rattle.std.specs.Prelude.{ℕ, ◌==◌, nat_lt, if◌then◌else◌, Option, Result, Ok, Err, List, length, slice_get, position}
 use Rattle.std.specs.Option.{ok_or, is_none}
 use Rattle.pl_stl.specs.declared.mesh.Facet.{Facet}
 use Rattle.pl_stl.specs.Reading.{Breach, mesh_of}

@@ -9,3 +9,5 @@ pub mod Effective
 pub mod Problem
 pub mod Stops
 pub mod Same
+pub mod Editing
+pub mod Printable

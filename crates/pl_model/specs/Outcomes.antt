@@ -1,8 +1,6 @@
 -- What an edit makes of a plate and what it answers, or why it is refused.
-use Rattle.std.specs.Prelude.{ℕ, ◌%◌, Option, Some, None, Result, Ok, Err, List, [], ◌∷◌, ◌++◌, slice_set, remove}
+use Rattle.std.specs.Prelude.{ℕ, ◌%◌, Some, None, Result, Ok, Err, List, [], ◌∷◌, ◌++◌, slice_set, remove}
 use Rattle.std.specs.FinMap as map
-use Rattle.pl_stl.specs.declared.mesh.Facet.{Facet}
-use Rattle.pl_options.specs.KeyMap.{key_cmp}
 use Rattle.pl_model.specs.declared.instances.Shift.{Shift}
 use Rattle.pl_model.specs.declared.object.Object.{Object}
 use Rattle.pl_edit.specs.declared.edit.Edit.{Edit}
@@ -10,8 +8,8 @@ use Rattle.pl_edit.specs.declared.edit.Edit.TheVariants.{Load, Reload, Delete, C
 use Rattle.pl_edit.specs.declared.reply.EditReply.{EditReply}
 use Rattle.pl_edit.specs.declared.reply.EditReply.TheVariants as reply
 use Rattle.pl_edit.specs.declared.reply.EditRefusal.{EditRefusal}
-use Rattle.pl_model.specs.Shifts.{shift_of, origin}
-use Rattle.pl_model.specs.Contents.{Contents}
+use Rattle.pl_model.specs.Shifts.{shift_of}
+use Rattle.pl_model.specs.Contents.{Contents, with_place, fresh}
 use Rattle.pl_edit.specs.Data.{Data}
 use Rattle.pl_model.specs.Settings.{put_over}
 use Rattle.pl_model.specs.Finding.{object_at, instance_at, key_in, object_key, value_in, mesh_in, ini_in, free_place, room_in, others_in}
@@ -25,15 +23,8 @@ abbrev pub given : {X Y : Type 0} → Result X EditRefusal → (X → Result Y E
 given (Ok x) next = next x
 given (Err refusal) next = Err refusal
 
-abbrev pub with_place : Contents → ℕ → Option Object → Contents
-with_place plate place object = record plate { places = slice_set plate.places place object }
-
 abbrev pub done : Contents → Result Outcome EditRefusal
 done plate = Ok (record { plate = plate; reply = reply.Done })
-
--- a mesh as it is loaded
-abbrev pub fresh : List ℕ → List Facet → Object
-fresh name mesh = record { name = name; mesh = mesh; quarter = 0; overrides = map.empty; instances = origin ∷ [] }
 
 abbrev pub loaded : Contents → List ℕ → Data → Result Outcome EditRefusal
 loaded plate name block =

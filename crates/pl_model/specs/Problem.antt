@@ -1,5 +1,5 @@
 -- Why a plate can't be printed.
-use Rattle.std.specs.Prelude.{ℤ, ℕ, suc, pos, ◌+◌, ◌*◌, ◌^◌, ◌+ℤ◌, nat_le, int_le, Bool, ◌&&◌, not, if◌then◌else◌, List, [], ◌∷◌, position, Option, Some, None}
+use Rattle.std.specs.Prelude.{ℤ, ℕ, pos, ◌+◌, ◌*◌, ◌^◌, ◌+ℤ◌, nat_le, int_le, Bool, ◌&&◌, not, if◌then◌else◌, List, [], ◌∷◌, position, Option, Some, None}
 use Rattle.std.specs.Int.{int_div_euclid}
 use Rattle.std.specs.Option.{option_or, is_none}
 use Rattle.std.specs.List.{list_all}

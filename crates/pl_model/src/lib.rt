@@ -15,7 +15,10 @@ mod tests;
 mod ways;
 
 pub use instances::{Instances, Shift};
-pub use laws::settings_texts_have_one_reading;
+pub use laws::{
+    a_drop_moves_the_later_ones_down, edits_are_what_they_say, settings_go_over_the_configuration,
+    settings_texts_have_one_reading, the_least_place_has_the_problem,
+};
 pub use object::Object;
 pub use pl_edit::{Block, Edit, EditRefusal, EditReply, ValueText};
 pub use plate::Plate;

@@ -1,12 +1,15 @@
 //! The plate.
-ghost use Rattle.std.specs.Prelude.{◌≡◌, ◌<◌, ◌↔◌, Some, None, IfOk, IfSome, IsSome, OnErr, IsTrue, replicate};
+ghost use Rattle.std.specs.Prelude.{◌≡◌, ◌<◌, ◌↔◌, Some, None, IfOk, IfSome, IsSome, OnErr, IsTrue, MatchOption, replicate};
 ghost use Rattle.std.specs.Option.{option_copied};
 ghost use Rattle.pl_keys.specs.Values.{IsValueOf};
-ghost use Rattle.pl_model.specs.Places.{place_in};
+ghost use Rattle.pl_model.specs.Places.{ArePlaces, place_in};
 ghost use Rattle.pl_model.specs.Contents.{blank};
 ghost use Rattle.pl_model.specs.Effective.{effective};
+ghost use Rattle.pl_model.specs.Editing.{IsEdited};
 ghost use Rattle.pl_model.specs.Outcomes.{edited, edit_reply};
+ghost use Rattle.pl_model.specs.Printable.{HasProblem, CanBePrinted};
 ghost use Rattle.pl_model.specs.Problem.{problem_of};
+ghost use Rattle.pl_model.specs.Same.{same_plates};
 
 use crate::effective::value_for;
 use crate::object::Object;
@@ -116,11 +119,19 @@ impl Plate {
         Ok(Plate { config, places })
     }
 
-    /// Whether two plates are equal: of equal configurations, and in each place both are empty or have equal objects.
-    pub fn same(&self, other: &Plate) -> bool
+    // Whether configurations and places are equal.
+    fn is_equal(&self, other: &Plate) -> bool
         ensures { IsTrue result ↔ (self.now ≡ other.now) }
     {
         self.config.same(&other.config) && same_places(&self.places, &other.places)
+    }
+
+    /// Whether two plates are equal: of equal configurations, and in each place both are empty or have equal objects.
+    pub fn same(&self, other: &Plate) -> bool
+        ensures same { result ≡ same_plates self.now other.now }
+        ensures equal { IsTrue result ↔ (self.now ≡ other.now) }
+    {
+        self.is_equal(other)
     }
 
     /// The object at a place. `None` exactly where the place is empty or above 15.
@@ -132,6 +143,14 @@ impl Plate {
             Some(Some(object)) => Some(object),
             _ => None,
         }
+    }
+
+    /// The sixteen places in order, each empty or with an object.
+    pub fn places(&self) -> &[Option<Object>]
+        ensures places { result.now ≡ self.now.places }
+        ensures kept { ArePlaces result.now }
+    {
+        &self.places
     }
 
     /// The configuration.
@@ -153,10 +172,8 @@ impl Plate {
         }
     }
 
-    /// Why the plate can't be printed, if it can't: the first of `Empty`, where no place is filled; then for the places in order
-    /// `OutOfBed` for the first instance whose box of cells is not inside the bed of 625 by 525 cells, and after the place's
-    /// instances `TooManyCells`, where columns times rows times layers exceed 2^24.
-    pub fn problem(&self) -> Option<Problem>
+    // The first problem, as it is computed.
+    fn reason(&self) -> Option<Problem>
         ensures { result ≡ problem_of self.now }
     {
         if is_empty(&self.places) {
@@ -165,8 +182,18 @@ impl Plate {
         first_problem(&self.config, &self.places)
     }
 
-    /// Changes the plate, and answers. A refused edit leaves the plate, and so does want of memory.
-    pub fn edit(&mut self, alloc: Global, edit: &Edit) -> Result<EditReply, NoMemory>
+    /// Why the plate can't be printed, if it can't: the first of `Empty`, where no place is filled; then for the places in order
+    /// `OutOfBed` for the first instance whose box of cells is not inside the bed of 625 by 525 cells, and after the place's
+    /// instances `TooManyCells`, where columns times rows times layers exceed 2^24.
+    pub fn problem(&self) -> Option<Problem>
+        ensures problem { result ≡ problem_of self.now }
+        ensures told { MatchOption result (CanBePrinted self.now) (HasProblem self.now) }
+    {
+        self.reason()
+    }
+
+    // Makes an edit, and answers, as it is computed.
+    fn answer(&mut self, alloc: Global, edit: &Edit) -> Result<EditReply, NoMemory>
         ensures reply { IfOk result (λ reply. reply ≡ edit_reply self.old edit.now) }
         ensures plate { IfOk result (λ _. self.new ≡ edited self.old edit.now) }
         ensures err { OnErr result (self.new ≡ self.old) }
@@ -176,5 +203,16 @@ impl Plate {
             Err(Stop::Refused(refusal)) => Ok(EditReply::Refused(refusal)),
             Err(Stop::NoMemory) => Err(NoMemory),
         }
+    }
+
+    /// Changes the plate, and answers. A refused edit leaves the plate, and so does want of memory.
+    pub fn edit(&mut self, alloc: Global, edit: &Edit) -> Result<EditReply, NoMemory>
+        ensures reply { IfOk result (λ reply. reply ≡ edit_reply self.old edit.now) }
+        ensures plate { IfOk result (λ _. self.new ≡ edited self.old edit.now) }
+        ensures told { IfOk result (λ reply. IsEdited self.old edit.now reply self.new) }
+        ensures err { OnErr result (self.new ≡ self.old) }
+    {
+        let _ = &self.config;
+        self.answer(alloc, edit)
     }
 }

@@ -1,4 +1,4 @@
-//! What edits answer, problems, copies, and the words of refusals.
+//! What edits answer, problems, and copies.
 use crate::{Block, Edit, EditRefusal, EditReply, Plate, ValueText};
 use pl_options::{IniFault, Key, Value};
 use pl_stl::StlFault;
@@ -19,6 +19,22 @@ const LARGE: &[u8] =
 // A text that is none of a mesh, by the word of its second line.
 const NO_MESH: &[u8] = b"solid a\nfacets\n";
 
+// An edit of a row: a place, an instance, a shift to the right in nanometres, the bytes of a key, of a value or of a block.
+#[derive(Clone, Copy)]
+enum Step {
+    Load(&'static [u8]),
+    Reload(u8, &'static [u8]),
+    Delete(u8),
+    Copy(u8),
+    Move(u8, u8, i64),
+    Drop(u8, u8),
+    Turn(u8, u8),
+    Set(&'static [u8], &'static [u8]),
+    Override(u8, &'static [u8], &'static [u8]),
+    Unset(u8, &'static [u8]),
+    Ini(&'static [u8]),
+}
+
 fn block(alloc: Global, bytes: &[u8]) -> Result<Shared<Block>, NoMemory> {
     if bytes.len() > 1 << 28 {
         return Err(NoMemory);
@@ -36,23 +52,14 @@ fn value(alloc: Global, bytes: &[u8]) -> Result<ValueText, NoMemory> {
 }
 
 fn load(alloc: Global, bytes: &[u8]) -> Result<Edit, NoMemory> {
-    Ok(Edit::Load {
-        name: Text::copy_of(alloc, b"a")?,
-        block: block(alloc, bytes)?,
-    })
+    let block = block(alloc, bytes)?;
+    let name = Text::copy_of(alloc, b"a")?;
+    Ok(Edit::Load { name, block })
 }
 
 fn reload(alloc: Global, place: u8, bytes: &[u8]) -> Result<Edit, NoMemory> {
-    Ok(Edit::Reload {
-        place,
-        block: block(alloc, bytes)?,
-    })
-}
-
-fn ini(alloc: Global, bytes: &[u8]) -> Result<Edit, NoMemory> {
-    Ok(Edit::Ini {
-        block: block(alloc, bytes)?,
-    })
+    let block = block(alloc, bytes)?;
+    Ok(Edit::Reload { place, block })
 }
 
 fn copy(place: u8) -> Edit {
@@ -73,29 +80,63 @@ fn shift(place: u8, instance: u8, x: i64) -> Edit {
 }
 
 fn set(alloc: Global, key: &[u8], text: &[u8]) -> Result<Edit, NoMemory> {
-    Ok(Edit::Set {
-        key: Text::copy_of(alloc, key)?,
-        value: value(alloc, text)?,
-    })
+    let value = value(alloc, text)?;
+    let key = Text::copy_of(alloc, key)?;
+    Ok(Edit::Set { key, value })
 }
 
 fn override_value(alloc: Global, place: u8, key: &[u8], text: &[u8]) -> Result<Edit, NoMemory> {
-    Ok(Edit::Override {
-        place,
-        key: Text::copy_of(alloc, key)?,
-        value: value(alloc, text)?,
-    })
+    let value = value(alloc, text)?;
+    let key = Text::copy_of(alloc, key)?;
+    Ok(Edit::Override { place, key, value })
 }
 
 fn unset(alloc: Global, place: u8, key: &[u8]) -> Result<Edit, NoMemory> {
-    Ok(Edit::Unset {
-        place,
-        key: Text::copy_of(alloc, key)?,
-    })
+    let key = Text::copy_of(alloc, key)?;
+    Ok(Edit::Unset { place, key })
 }
 
-fn refused(refusal: EditRefusal) -> EditReply {
-    EditReply::Refused(refusal)
+fn ini(alloc: Global, bytes: &[u8]) -> Result<Edit, NoMemory> {
+    let block = block(alloc, bytes)?;
+    Ok(Edit::Ini { block })
+}
+
+// The edit of a row.
+fn edit_of(alloc: Global, step: Step) -> Result<Edit, NoMemory> {
+    match step {
+        Step::Load(bytes) => load(alloc, bytes),
+        Step::Reload(place, bytes) => reload(alloc, place, bytes),
+        Step::Delete(place) => Ok(Edit::Delete { place }),
+        Step::Copy(place) => Ok(copy(place)),
+        Step::Move(place, instance, x) => Ok(shift(place, instance, x)),
+        Step::Drop(place, instance) => Ok(Edit::Drop { place, instance }),
+        Step::Turn(place, quarter) => Ok(Edit::Turn { place, quarter }),
+        Step::Set(key, text) => set(alloc, key, text),
+        Step::Override(place, key, text) => override_value(alloc, place, key, text),
+        Step::Unset(place, key) => unset(alloc, place, key),
+        Step::Ini(bytes) => ini(alloc, bytes),
+    }
+}
+
+// Makes the edit of a row.
+fn answer(plate: &mut Plate, alloc: Global, step: Step) -> Result<EditReply, NoMemory> {
+    let edit = edit_of(alloc, step)?;
+    plate.edit(alloc, &edit)
+}
+
+// Makes the edits of rows up to the first one with another answer than the row says, whose number it gives.
+fn first_other(
+    plate: &mut Plate,
+    alloc: Global,
+    rows: &[(Step, EditReply)],
+) -> Result<Option<usize>, NoMemory> {
+    for number in 0..rows.len() {
+        let (step, reply) = rows[number];
+        if answer(plate, alloc, step)? != reply {
+            return Ok(Some(number));
+        }
+    }
+    Ok(None)
 }
 
 // Whether the value that holds at place 0 is this whole number.
@@ -107,214 +148,213 @@ fn is_whole(plate: &Plate, key: Key, number: i64) -> bool {
 }
 
 #[test]
-fn each_edit_answers(rt: HostRuntime) -> Result<(), Fail> {
-    let alloc = rt.alloc();
-    let mut plate = Plate::blank(alloc)?;
+fn places_are_filled_from_the_least_free_one(rt: HostRuntime) -> Result<(), Fail> {
+    let rows = [
+        // no place is filled, and a missing object comes before a bad block
+        (Step::Copy(0), EditReply::Refused(EditRefusal::NoObject)),
+        (
+            Step::Reload(0, NO_MESH),
+            EditReply::Refused(EditRefusal::NoObject),
+        ),
+        (
+            Step::Load(NO_MESH),
+            EditReply::Refused(EditRefusal::BadStl(2, StlFault::BadToken)),
+        ),
+        (Step::Load(SMALL), EditReply::Object(0)),
+        (Step::Load(SMALL), EditReply::Object(1)),
+        (Step::Load(SMALL), EditReply::Object(2)),
+        (Step::Delete(1), EditReply::Done),
+        (Step::Delete(1), EditReply::Refused(EditRefusal::NoObject)),
+        (Step::Load(LARGE), EditReply::Object(1)),
+        (
+            Step::Reload(1, NO_MESH),
+            EditReply::Refused(EditRefusal::BadStl(2, StlFault::BadToken)),
+        ),
+        (Step::Reload(1, SMALL), EditReply::Done),
+    ];
+    let mut plate = Plate::blank(rt.alloc())?;
+    let other = first_other(&mut plate, rt.alloc(), &rows)?;
+    assert_eq!(rt; other, None);
+    Ok(())
+}
+
+#[test]
+fn instances_are_copied_moved_and_dropped(rt: HostRuntime) -> Result<(), Fail> {
+    let rows = [
+        (Step::Load(SMALL), EditReply::Object(0)),
+        (Step::Copy(0), EditReply::Instance(1)),
+        (Step::Move(0, 1, 400_000), EditReply::Done),
+        (
+            Step::Move(0, 2, 0),
+            EditReply::Refused(EditRefusal::NoInstance),
+        ),
+        (Step::Drop(0, 0), EditReply::Done),
+        // one instance is left: a missing one is named before the last one
+        (
+            Step::Drop(0, 1),
+            EditReply::Refused(EditRefusal::NoInstance),
+        ),
+        (
+            Step::Drop(0, 0),
+            EditReply::Refused(EditRefusal::LastInstance),
+        ),
+        (Step::Turn(0, 3), EditReply::Done),
+        (Step::Turn(1, 3), EditReply::Refused(EditRefusal::NoObject)),
+    ];
+    let mut plate = Plate::blank(rt.alloc())?;
+    let other = first_other(&mut plate, rt.alloc(), &rows)?;
+    assert_eq!(rt; other, None);
+    Ok(())
+}
+
+#[test]
+fn options_are_set_for_all(rt: HostRuntime) -> Result<(), Fail> {
     let rows = [
         (
-            "no place is filled",
-            copy(0),
-            refused(EditRefusal::NoObject),
+            Step::Set(b"colour", b"1"),
+            EditReply::Refused(EditRefusal::UnknownKey),
         ),
         (
-            "a missing object first",
-            reload(alloc, 0, NO_MESH)?,
-            refused(EditRefusal::NoObject),
+            Step::Set(b"perimeters", b"x"),
+            EditReply::Refused(EditRefusal::BadValue),
         ),
         (
-            "no mesh text",
-            load(alloc, NO_MESH)?,
-            refused(EditRefusal::BadStl(2, StlFault::BadToken)),
+            Step::Set(b"perimeters", b"33"),
+            EditReply::Refused(EditRefusal::OutOfRange),
         ),
-        ("a load", load(alloc, SMALL)?, EditReply::Object(0)),
-        ("a second load", load(alloc, SMALL)?, EditReply::Object(1)),
-        ("a third load", load(alloc, SMALL)?, EditReply::Object(2)),
-        ("a delete", Edit::Delete { place: 1 }, EditReply::Done),
+        (Step::Set(b"perimeters", b"3"), EditReply::Done),
         (
-            "the least free place",
-            load(alloc, LARGE)?,
-            EditReply::Object(1),
-        ),
-        ("a reload", reload(alloc, 1, SMALL)?, EditReply::Done),
-        ("a copy", copy(0), EditReply::Instance(1)),
-        ("a move", shift(0, 1, 400_000), EditReply::Done),
-        (
-            "no such instance",
-            shift(0, 2, 0),
-            refused(EditRefusal::NoInstance),
+            Step::Ini(b"\nperimeters 5\n"),
+            EditReply::Refused(EditRefusal::BadIni(2, IniFault::NoEquals)),
         ),
         (
-            "a drop",
-            Edit::Drop {
-                place: 0,
-                instance: 0,
-            },
-            EditReply::Done,
-        ),
-        (
-            "a drop of none",
-            Edit::Drop {
-                place: 0,
-                instance: 1,
-            },
-            refused(EditRefusal::NoInstance),
-        ),
-        (
-            "a drop of the last",
-            Edit::Drop {
-                place: 0,
-                instance: 0,
-            },
-            refused(EditRefusal::LastInstance),
-        ),
-        (
-            "a turn",
-            Edit::Turn {
-                place: 0,
-                quarter: 3,
-            },
-            EditReply::Done,
-        ),
-        (
-            "no such key",
-            set(alloc, b"colour", b"1")?,
-            refused(EditRefusal::UnknownKey),
-        ),
-        ("a set", set(alloc, b"perimeters", b"3")?, EditReply::Done),
-        (
-            "a bad value",
-            set(alloc, b"perimeters", b"x")?,
-            refused(EditRefusal::BadValue),
-        ),
-        (
-            "a value out of range",
-            set(alloc, b"perimeters", b"33")?,
-            refused(EditRefusal::OutOfRange),
-        ),
-        (
-            "no object first",
-            override_value(alloc, 16, b"colour", b"x")?,
-            refused(EditRefusal::NoObject),
-        ),
-        (
-            "no object key",
-            override_value(alloc, 0, b"skirts", b"x")?,
-            refused(EditRefusal::NotObjectKey),
-        ),
-        (
-            "an override",
-            override_value(alloc, 0, b"perimeters", b"4")?,
-            EditReply::Done,
-        ),
-        (
-            "an unset",
-            unset(alloc, 0, b"fill_density")?,
-            EditReply::Done,
-        ),
-        (
-            "settings",
-            ini(alloc, b"perimeters = 5\ncolour = 1\n")?,
+            Step::Ini(b"perimeters = 5\ncolour = 1\n"),
             EditReply::Set {
                 taken: 1,
                 passed: 1,
             },
         ),
-        (
-            "no settings",
-            ini(alloc, b"\nperimeters 5\n")?,
-            refused(EditRefusal::BadIni(2, IniFault::NoEquals)),
-        ),
     ];
-    for (what, edit, reply) in &rows {
-        assert_eq!(rt; plate.edit(alloc, edit)?, *reply, "{what}");
-    }
+    let mut plate = Plate::blank(rt.alloc())?;
+    let other = first_other(&mut plate, rt.alloc(), &rows)?;
+    assert_eq!(rt; other, None);
+    Ok(())
+}
+
+#[test]
+fn an_object_has_values_of_its_own(rt: HostRuntime) -> Result<(), Fail> {
+    let rows = [
+        (Step::Load(SMALL), EditReply::Object(0)),
+        (Step::Set(b"perimeters", b"5"), EditReply::Done),
+        // the object before the key, the key before the objects that have it, these before the value
+        (
+            Step::Override(16, b"colour", b"x"),
+            EditReply::Refused(EditRefusal::NoObject),
+        ),
+        (
+            Step::Override(0, b"colour", b"x"),
+            EditReply::Refused(EditRefusal::UnknownKey),
+        ),
+        (
+            Step::Override(0, b"skirts", b"x"),
+            EditReply::Refused(EditRefusal::NotObjectKey),
+        ),
+        (Step::Override(0, b"perimeters", b"4"), EditReply::Done),
+        (Step::Unset(0, b"fill_density"), EditReply::Done),
+    ];
+    let mut plate = Plate::blank(rt.alloc())?;
+    let other = first_other(&mut plate, rt.alloc(), &rows)?;
+    assert_eq!(rt; other, None);
     assert!(rt; is_whole(&plate, Key::Perimeters, 4));
-    assert_eq!(rt;
-        plate.edit(alloc, &unset(alloc, 0, b"perimeters")?)?,
-        EditReply::Done
-    );
+    let _ = answer(&mut plate, rt.alloc(), Step::Unset(0, b"perimeters"))?;
     assert!(rt; is_whole(&plate, Key::Perimeters, 5));
     Ok(())
 }
 
+// Sixteen loads, then sixteen instances at place 15.
+fn filled(alloc: Global) -> Result<Plate, NoMemory> {
+    let mut plate = Plate::blank(alloc)?;
+    for _place in 0..16u8 {
+        let _ = answer(&mut plate, alloc, Step::Load(SMALL))?;
+    }
+    for _instance in 1..16u8 {
+        let _ = answer(&mut plate, alloc, Step::Copy(15))?;
+    }
+    Ok(plate)
+}
+
 #[test]
 fn places_and_instances_are_sixteen(rt: HostRuntime) -> Result<(), Fail> {
-    let alloc = rt.alloc();
-    let mut plate = Plate::blank(alloc)?;
-    for place in 0..16u8 {
-        assert_eq!(rt;
-            plate.edit(alloc, &load(alloc, SMALL)?)?,
-            EditReply::Object(place)
-        );
-    }
-    assert_eq!(rt;
-        plate.edit(alloc, &load(alloc, SMALL)?)?,
-        refused(EditRefusal::FullObjects)
-    );
-    assert_eq!(rt;
-        plate.edit(alloc, &load(alloc, NO_MESH)?)?,
-        refused(EditRefusal::BadStl(2, StlFault::BadToken))
-    );
-    for instance in 1..16u8 {
-        assert_eq!(rt;
-            plate.edit(alloc, &copy(15))?,
-            EditReply::Instance(instance)
-        );
-    }
-    assert_eq!(rt;
-        plate.edit(alloc, &copy(15))?,
-        refused(EditRefusal::FullInstances)
-    );
+    let rows = [
+        (
+            Step::Load(SMALL),
+            EditReply::Refused(EditRefusal::FullObjects),
+        ),
+        // a bad block comes before full places
+        (
+            Step::Load(NO_MESH),
+            EditReply::Refused(EditRefusal::BadStl(2, StlFault::BadToken)),
+        ),
+        (
+            Step::Copy(15),
+            EditReply::Refused(EditRefusal::FullInstances),
+        ),
+        (Step::Drop(15, 15), EditReply::Done),
+        (Step::Copy(15), EditReply::Instance(15)),
+        (Step::Delete(15), EditReply::Done),
+        (Step::Load(SMALL), EditReply::Object(15)),
+    ];
+    let mut plate = filled(rt.alloc())?;
+    let other = first_other(&mut plate, rt.alloc(), &rows)?;
+    assert_eq!(rt; other, None);
     Ok(())
+}
+
+// Makes the edits of rows up to the first one that leaves another problem than the row says, whose number it gives.
+fn first_other_problem(
+    plate: &mut Plate,
+    alloc: Global,
+    rows: &[(Step, Option<Problem>)],
+) -> Result<Option<usize>, NoMemory> {
+    for number in 0..rows.len() {
+        let (step, problem) = rows[number];
+        let _ = answer(plate, alloc, step)?;
+        if plate.problem() != problem {
+            return Ok(Some(number));
+        }
+    }
+    Ok(None)
 }
 
 #[test]
 fn the_first_problem_is_named(rt: HostRuntime) -> Result<(), Fail> {
-    let alloc = rt.alloc();
-    let mut plate = Plate::blank(alloc)?;
-    assert_eq!(rt; plate.problem(), Some(Problem::Empty));
     let rows = [
-        ("two columns", load(alloc, SMALL)?, None),
-        ("a second instance", copy(0), None),
-        ("the last column", shift(0, 1, 249_599_999), None),
-        (
-            "one further",
-            shift(0, 1, 249_600_000),
-            Some(Problem::OutOfBed(0, 1)),
-        ),
-        (
-            "to the left",
-            shift(0, 0, -1),
-            Some(Problem::OutOfBed(0, 0)),
-        ),
-        ("back", shift(0, 0, 0), Some(Problem::OutOfBed(0, 1))),
-        (
-            "the cells of a place before the next",
-            load(alloc, LARGE)?,
-            Some(Problem::OutOfBed(0, 1)),
-        ),
-        (
-            "too many cells",
-            Edit::Delete { place: 0 },
-            Some(Problem::TooManyCells(1)),
-        ),
-        ("higher layers", set(alloc, b"layer_height", b"0.3")?, None),
+        (Step::Delete(0), Some(Problem::Empty)),
+        (Step::Load(SMALL), None),
+        (Step::Copy(0), None),
+        // the last column, and one further
+        (Step::Move(0, 1, 249_599_999), None),
+        (Step::Move(0, 1, 249_600_000), Some(Problem::OutOfBed(0, 1))),
+        (Step::Move(0, 0, -1), Some(Problem::OutOfBed(0, 0))),
+        (Step::Move(0, 0, 0), Some(Problem::OutOfBed(0, 1))),
+        // too many cells at a later place, and then alone
+        (Step::Load(LARGE), Some(Problem::OutOfBed(0, 1))),
+        (Step::Delete(0), Some(Problem::TooManyCells(1))),
+        (Step::Set(b"layer_height", b"0.3"), None),
     ];
-    for (what, edit, problem) in &rows {
-        let _ = plate.edit(alloc, edit)?;
-        assert_eq!(rt; plate.problem(), *problem, "{what}");
-    }
+    let mut plate = Plate::blank(rt.alloc())?;
+    let other = first_other_problem(&mut plate, rt.alloc(), &rows)?;
+    assert_eq!(rt; other, None);
     Ok(())
 }
 
 #[test]
 fn a_copy_is_equal_until_it_is_edited(rt: HostRuntime) -> Result<(), Fail> {
-    let alloc = rt.alloc();
-    let mut plate = Plate::blank(alloc)?;
-    let _ = plate.edit(alloc, &load(alloc, SMALL)?)?;
-    let before = plate.copied(alloc)?;
+    let mut plate = Plate::blank(rt.alloc())?;
+    let _ = answer(&mut plate, rt.alloc(), Step::Load(SMALL))?;
+    let before = plate.copied(rt.alloc())?;
     assert!(rt; plate.same(&before));
-    let _ = plate.edit(alloc, &shift(0, 0, 1))?;
+    let _ = answer(&mut plate, rt.alloc(), Step::Move(0, 0, 1))?;
     assert!(rt; !plate.same(&before));
     Ok(())
 }

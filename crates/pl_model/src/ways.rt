@@ -1,7 +1,8 @@
 //! How each edit changes a plate.
 ghost use Rattle.std.specs.Prelude.{◌≡◌, ◌<◌, Some, None, OnOk, OnErr, IfOk, length};
 ghost use Rattle.pl_model.specs.Finding.{object_at};
-ghost use Rattle.pl_model.specs.Outcomes.{outcome, loaded, deleted, in_object, with_place, set, configured};
+ghost use Rattle.pl_model.specs.Contents.{with_place};
+ghost use Rattle.pl_model.specs.Outcomes.{outcome, loaded, deleted, in_object, set, configured};
 ghost use Rattle.pl_model.specs.Changes.{change_by};
 ghost use Rattle.pl_model.specs.Stops.{Makes};
 

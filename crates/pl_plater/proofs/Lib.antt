@@ -1,4 +1,2 @@
-mod Waiting
-mod Entries
-mod Names
-mod Tops
+pub mod Served
+pub mod Tops

@@ -1,5 +1,4 @@
 pub mod Commands
 pub mod Headline
 pub mod Status
-pub mod Transcript
 pub mod Words

@@ -3,7 +3,7 @@ use Rattle.std.specs.Prelude.{ℕ, ⊤}
 use Rattle.pl_units.specs.declared.Refusal.{Refusal}
 use Rattle.pl_units.specs.declared.Refusal.TheVariants.{Fault}
 use Rattle.pl_ports.specs.declared.ends.ReadStop.{ReadStop}
-use Rattle.pl_script.specs.declared.script.ScriptFault.{ScriptFault}
+use Rattle.pl_script.specs.declared.fault.ScriptFault.{ScriptFault}
 use Rattle.pl_plater.specs.declared.status.TopFault.TheVariants.{Script}
 use Rattle.pl_plater.specs.declared.status.Status.{Status}
 use Rattle.pl_plater.specs.declared.status.Status.TheVariants.{Done, Usage, Refused, ReadFault, WriteFault, NoMemory}
@@ -22,6 +22,13 @@ IsBeforeWriting Usage = ⊤
 IsBeforeWriting (Refused line fault) = ⊤
 IsBeforeWriting ReadFault = ⊤
 IsBeforeWriting _ = ⊥
+
+-- the answers that come once a script is run
+abbrev pub IsAfterReading : Status → Type 0
+IsAfterReading Done = ⊤
+IsAfterReading WriteFault = ⊤
+IsAfterReading NoMemory = ⊤
+IsAfterReading _ = ⊥
 
 -- the status where a script was refused
 abbrev pub refusal_status : Refusal ScriptFault → Status

@@ -7,7 +7,6 @@ pub mod status;
 #[cfg(test)]
 mod tests;
 mod top;
-mod transcript;
 mod words;
 
 pub use status::{Status, TopFault};

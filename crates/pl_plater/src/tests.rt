@@ -48,85 +48,179 @@ fn run<R: Threads + Wait + Sync>(
     Ok(plater(rt, alloc, &words, &mut source, sink, &OpenGate))
 }
 
+// A script, and what it writes.
+struct Row {
+    name: &'static str,
+    // Whether the box comes before the commands.
+    with_box: bool,
+    script: &'static [u8],
+    transcript: &'static [u8],
+}
+
+const ROWS: [Row; 10] = [
+    Row {
+        name: "one box",
+        with_box: true,
+        script: b"1 load cube box\n1 apply\n1 export\n",
+        transcript: TRANSCRIPT,
+    },
+    Row {
+        name: "the head alone",
+        with_box: false,
+        script: b"plater 1",
+        transcript: b"end 0 runs 0\n",
+    },
+    Row {
+        name: "an export of nothing",
+        with_box: false,
+        script: b"plater 1\n1 export\n",
+        transcript: b"1 s1 export = refused Empty\n2 s1 bye\nend 2 runs 0\n",
+    },
+    Row {
+        name: "a blank plate",
+        with_box: false,
+        script: b"plater 1\n\n# nothing yet\nworkers 0\n 1\tstatus\r\n1 cancel\n",
+        transcript: b"1 s1 status = export=invalid\n2 s1 cancel = cancelled 0\n3 s1 bye\nend 3 runs 0\n",
+    },
+    Row {
+        name: "a mesh that is cut",
+        with_box: false,
+        script: b"plater 1\ndata bad\nsolid x\n.end\n1 load a bad\n",
+        transcript: b"1 s1 load a bad = refused BadStl 1 Cut\n2 s1 bye\nend 2 runs 0\n",
+    },
+    Row {
+        name: "a vertex that is cut",
+        with_box: false,
+        script: b"plater 1\ndata cut\nsolid a\nfacet normal 0 0 1\nouter loop\nvertex 0 0 0\nvertex 1 0 0\nvertex 0 1\n.end\n1 load a cut\n",
+        transcript: b"1 s1 load a cut = refused BadStl 6 Cut\n2 s1 bye\nend 2 runs 0\n",
+    },
+    Row {
+        name: "a mesh wider than the bed",
+        with_box: false,
+        script: b"plater 1\ndata wide\nSOLID\nFacet Normal nan nan nan OUTER LOOP vertex 0 0 0 vertex 3e2 0 0 vertex 0 4 .4 EndLoop EndFacet\nENDSOLID\n.end\n1 load a wide\n1 apply\n1 export\n",
+        transcript: b"1 s1 load a wide = object 0\n2 s1 apply = changed\n3 s1 export = refused OutOfBed 0 0\n4 s1 bye\nend 4 runs 0\n",
+    },
+    Row {
+        name: "two exports",
+        with_box: true,
+        script: b"1 load a box\n1 apply\n1 export\n1 apply\n1 export\n",
+        transcript: TWO_EXPORTS,
+    },
+    Row {
+        name: "two objects",
+        with_box: true,
+        script: b"1 load a box\n1 load b box\n1 apply\n1 apply\n1 status",
+        transcript: b"1 s1 load a box = object 0\n2 s1 load b box = object 1\n3 s1 apply = changed\n4 s1 apply = unchanged\n5 s1 status = 0.slice=invalid 1.slice=invalid export=invalid\n6 s1 bye\nend 6 runs 0\n",
+    },
+    Row {
+        name: "the seventeenth load",
+        with_box: true,
+        script: b"1 load a box\n1 load a box\n1 load a box\n1 load a box\n1 load a box\n1 load a box\n1 load a box\n1 load a box\n1 load a box\n1 load a box\n1 load a box\n1 load a box\n1 load a box\n1 load a box\n1 load a box\n1 load a box\n1 load a box\n",
+        transcript: b"1 s1 load a box = object 0\n2 s1 load a box = object 1\n3 s1 load a box = object 2\n4 s1 load a box = object 3\n5 s1 load a box = object 4\n6 s1 load a box = object 5\n7 s1 load a box = object 6\n8 s1 load a box = object 7\n9 s1 load a box = object 8\n10 s1 load a box = object 9\n11 s1 load a box = object 10\n12 s1 load a box = object 11\n13 s1 load a box = object 12\n14 s1 load a box = object 13\n15 s1 load a box = object 14\n16 s1 load a box = object 15\n17 s1 load a box = refused FullObjects\n18 s1 bye\nend 18 runs 0\n",
+    },
+];
+
 #[test]
 fn scripts_give_their_transcripts(rt: HostRuntime) -> Result<(), Fail> {
     let alloc = rt.alloc();
-    let table = [
-        (
-            with_box(alloc, b"1 load cube box\n1 apply\n1 export\n")?,
-            TRANSCRIPT,
-        ),
-        (
-            Text::copy_of(alloc, b"plater 1")?,
-            b"end 0 runs 0\n".as_slice(),
-        ),
-        (
-            Text::copy_of(alloc, b"plater 1\n1 export\n")?,
-            b"1 s1 export = refused Empty\n2 s1 bye\nend 2 runs 0\n".as_slice(),
-        ),
-        (
-            Text::copy_of(alloc, b"plater 1\ndata bad\nsolid x\n.end\n1 load a bad\n")?,
-            b"1 s1 load a bad = refused BadStl 1 Cut\n2 s1 bye\nend 2 runs 0\n".as_slice(),
-        ),
-        (
-            Text::copy_of(
-                alloc,
-                b"plater 1\ndata cut\nsolid a\nfacet normal 0 0 1\nouter loop\nvertex 0 0 0\nvertex 1 0 0\nvertex 0 1\n.end\n1 load a cut\n",
-            )?,
-            b"1 s1 load a cut = refused BadStl 6 Cut\n2 s1 bye\nend 2 runs 0\n".as_slice(),
-        ),
-        (
-            Text::copy_of(
-                alloc,
-                b"plater 1\ndata wide\nSOLID\nFacet Normal nan nan nan OUTER LOOP vertex 0 0 0 vertex 3e2 0 0 vertex 0 4 .4 EndLoop EndFacet\nENDSOLID\n.end\n1 load a wide\n1 apply\n1 export\n",
-            )?,
-            b"1 s1 load a wide = object 0\n2 s1 apply = changed\n3 s1 export = refused OutOfBed 0 0\n4 s1 bye\nend 4 runs 0\n".as_slice(),
-        ),
-        (
-            with_box(
-                alloc,
-                b"1 load a box\n1 apply\n1 export\n1 apply\n1 export\n",
-            )?,
-            TWO_EXPORTS,
-        ),
-        (
-            with_box(alloc, b"1 load a box\n1 load b box\n1 apply\n1 apply")?,
-            b"1 s1 load a box = object 0\n2 s1 load b box = refused FullObjects\n3 s1 apply = changed\n4 s1 apply = unchanged\n5 s1 bye\nend 5 runs 0\n".as_slice(),
-        ),
-    ];
-    for (script, transcript) in table {
+    for row in &ROWS {
+        let script = if row.with_box {
+            with_box(alloc, row.script)?
+        } else {
+            Text::copy_of(alloc, row.script)?
+        };
         let mut sink = SteadySink::new(alloc);
-        assert!(rt; run(&rt, alloc, script, &mut sink)? == Status::Done);
-        assert!(rt; sink.held() == transcript);
+        assert!(rt;
+            run(&rt, alloc, script, &mut sink)? == Status::Done,
+            "{row.name}"
+        );
+        assert!(rt; sink.held() == row.transcript, "{row.name}");
     }
     Ok(())
 }
 
 #[test]
-fn another_form_is_refused_as_a_whole(rt: HostRuntime) -> Result<(), Fail> {
-    let table: [&[u8]; 9] = [
-        b"",
-        b"plater 7\n",
-        b"plater  1\n",
-        b"plater 1\n\n",
-        b"plater 1\n2 apply\n",
-        b"plater 1\n1 load a box\n",
-        b"plater 1\n1 apply \n",
-        b"plater 1\ndata a\nsolid\n",
+fn each_object_has_its_layers(rt: HostRuntime) -> Result<(), Fail> {
+    let alloc = rt.alloc();
+    let script = with_box(alloc, b"1 load a box\n1 load b box\n1 apply\n1 export\n")?;
+    let mut sink = SteadySink::new(alloc);
+    assert!(rt; run(&rt, alloc, script, &mut sink)? == Status::Done);
+    let first =
+        b"3 s1 apply = changed\n4 s1 start 0.slice 0\n5 s1 done 0.slice 0\n6 s1 start 1.slice 0\n7 s1 done 1.slice 0\n8 s1 start export 0\n9 s1 done export 0\n10 s1 export = gcode 665\n".as_slice();
+    assert!(rt; sink.held().windows(first.len()).any(|part| part == first));
+    assert!(rt; sink.held().ends_with(b"\n11 s1 bye\nend 11 runs 3\n"));
+    Ok(())
+}
+
+// A script that is refused, the line, and the fault.
+const BREACHES: [(&[u8], u32, ScriptFault); 17] = [
+    (b"", 1, ScriptFault::NoHead),
+    (b"plater", 1, ScriptFault::NoHead),
+    (b"plater 7\n", 1, ScriptFault::NoHead),
+    (b"\nplater 1\n", 1, ScriptFault::NoHead),
+    (b"plater 1\nworkers 2\n", 2, ScriptFault::BadLine),
+    (b"plater 1\n1 apply now\n", 2, ScriptFault::BadLine),
+    (b"plater 1\n1 fly\n", 2, ScriptFault::UnknownCommand),
+    (b"plater 1\n1 after 1 1\n", 2, ScriptFault::UnknownCommand),
+    (b"plater 1\n1 load a box\n", 2, ScriptFault::NoData),
+    (b"plater 1\n17 apply\n", 2, ScriptFault::BadSession),
+    (b"plater 1\n2 apply\n", 2, ScriptFault::BadSession),
+    (b"plater 1\ndata a\nsolid\n", 2, ScriptFault::CutData),
+    (
         b"plater 1\ndata a\n.end\ndata a\n.end\n",
-    ];
-    for script in &table {
+        4,
+        ScriptFault::SameData,
+    ),
+    (
+        b"plater 1\ndata a\n.end\n1 load a A\n",
+        4,
+        ScriptFault::NoData,
+    ),
+    (
+        b"plater 1\n1 apply\n1 delete 0\n1 turn 0 1\n",
+        3,
+        ScriptFault::UnknownCommand,
+    ),
+    (
+        b"plater 1\n1 delete 0\n1 turn 0 4\n",
+        3,
+        ScriptFault::BadLine,
+    ),
+    (b"plater 1\n1 set notes\n", 2, ScriptFault::UnknownCommand),
+];
+
+#[test]
+fn the_first_breach_is_refused_at_its_line(rt: HostRuntime) -> Result<(), Fail> {
+    for (script, line, fault) in &BREACHES {
         let mut sink = SteadySink::new(rt.alloc());
-        let status = run(
-            &rt,
-            rt.alloc(),
-            Text::copy_of(rt.alloc(), script)?,
-            &mut sink,
-        )?;
-        let fault = TopFault::Script(ScriptFault::BadLine);
-        assert!(rt; status == Status::Refused { line: 0, fault });
+        let text = Text::copy_of(rt.alloc(), script)?;
+        let status = run(&rt, rt.alloc(), text, &mut sink)?;
+        let wanted = Status::Refused {
+            line: *line,
+            fault: TopFault::Script(*fault),
+        };
+        assert!(rt; status == wanted, "{line} {fault}");
         assert!(rt; sink.held().is_empty());
     }
+    Ok(())
+}
+
+#[test]
+fn command_10001_is_one_too_many(rt: HostRuntime) -> Result<(), Fail> {
+    let alloc = rt.alloc();
+    let mut script = Text::copy_of(alloc, b"plater 1\n")?;
+    for _line in 0..10_001 {
+        script.append(b"1 status\n")?;
+    }
+    let mut sink = SteadySink::new(alloc);
+    let fault = TopFault::Script(ScriptFault::TooMany);
+    assert!(rt;
+        run(&rt, alloc, script, &mut sink)?
+            == Status::Refused {
+                line: 10_002,
+                fault
+            }
+    );
     Ok(())
 }
 

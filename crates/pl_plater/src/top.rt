@@ -1,17 +1,19 @@
 //! The top call.
-ghost use Rattle.std.specs.Prelude.{◌≡◌, ◌≢◌, ◌≤◌, ◌⊎◌, ◌↔◌, length, IfSome};
+ghost use Rattle.std.specs.Prelude.{◌≡◌, ◌≢◌, ◌≤◌, ◌⊎◌, ◌↔◌, length, IfSome, None};
 ghost use Rattle.std.specs.Io.KnownBytes.{IsAtEnd};
 ghost use Rattle.pl_ports.specs.Causes.{Rose, TookAtMost};
 ghost use Rattle.pl_plater.specs.Words.{IsRun};
-ghost use Rattle.pl_plater.specs.Status.{IsBeforeWriting, refusal_status, stop_status};
-ghost use Rattle.pl_plater.specs.Headline.{limit, Answers, IsScript, Writes, WritesFront, EndsWell};
+ghost use Rattle.pl_plater.specs.Commands.{unserved};
+ghost use Rattle.pl_plater.specs.Status.{IsBeforeWriting, IsAfterReading, refusal_status, stop_status};
+ghost use Rattle.pl_plater.specs.Headline.{limit, Answers, IsScript, Wrote, WroteFront, Writes, WritesFront, EndsWell};
 
+use crate::commands::unserved;
 use crate::run::run_script;
 use crate::status::{Status, TopFault};
-use crate::transcript::put_transcript;
 use crate::words::is_run;
 use pl_ports::{Gate, ReadStop, Sink, SinkStop, Source, read_all};
-use pl_script::{ScriptFault, read_script};
+use pl_script::{Script, ScriptFault, read_script};
+use pl_transcript::put_transcript;
 use pl_units::Refusal;
 use std::alloc::Global;
 use std::sync::Wait;
@@ -47,6 +49,29 @@ fn unread(stop: &ReadStop) -> Status
     }
 }
 
+// Runs a script, whose commands are all served so far, and writes its transcript.
+fn run_and_write<R: Threads + Sync, K: Sink>(
+    rt: &R,
+    alloc: Global,
+    script: Script,
+    sink: &mut K,
+) -> Status
+    requires { unserved script.lines ≡ None }
+    ensures ended { IsAfterReading result }
+    ensures done { result ≡ Status.Done → Wrote script (K.held sink.old) (K.held sink.new) }
+    ensures write { result ≡ Status.WriteFault → Rose (K.faults sink.old) (K.faults sink.new) }
+    ensures front { (sink.new ≡ sink.old) ⊎ WroteFront script (K.held sink.old) (K.held sink.new) }
+{
+    let Ok(ended) = run_script(rt, alloc, script) else {
+        return Status::NoMemory;
+    };
+    match put_transcript(sink, &ended.journal, ended.runs) {
+        Ok(()) => Status::Done,
+        Err(SinkStop::Failed) => Status::WriteFault,
+        Err(SinkStop::NoMemory) => Status::NoMemory,
+    }
+}
+
 // The command `run`, from the bytes that were read on.
 fn play<R: Threads + Sync, K: Sink>(rt: &R, alloc: Global, bytes: &[u8], sink: &mut K) -> Status
     requires { length bytes.now ≤ limit }
@@ -62,13 +87,12 @@ fn play<R: Threads + Sync, K: Sink>(rt: &R, alloc: Global, bytes: &[u8], sink: &
         Ok(script) => script,
         Err(refusal) => return refused(&refusal),
     };
-    let Ok(ended) = run_script(rt, alloc, script) else {
-        return Status::NoMemory;
-    };
-    match put_transcript(alloc, sink, &ended.journal, ended.runs) {
-        Ok(()) => Status::Done,
-        Err(SinkStop::Failed) => Status::WriteFault,
-        Err(SinkStop::NoMemory) => Status::NoMemory,
+    match unserved(script.lines().all()) {
+        Some(line) => Status::Refused {
+            line,
+            fault: TopFault::Script(ScriptFault::UnknownCommand),
+        },
+        None => run_and_write(rt, alloc, script, sink),
     }
 }
 
@@ -96,7 +120,9 @@ fn run<R: Threads + Sync, S: Source, K: Sink>(
 }
 
 /// Everything that the program does. The words are those after the program's name: `run` alone is taken, which reads a
-/// script of at most 2^28 bytes to its end, runs it and writes its transcript.
+/// script of at most 2^28 bytes to its end, runs it and writes its transcript. Of the commands, `load`, `apply`, `export`,
+/// `status` and `cancel` of session 1 are served so far; the first other one is refused as an unknown command at its line,
+/// after all faults of the script.
 pub fn plater<Runtime: Threads + Wait + Sync, S: Source, K: Sink, G: Gate + Sync>(
     rt: &Runtime,
     alloc: Global,

@@ -1,3 +1,14 @@
 pub mod Parted
+pub mod FirstWord
+pub mod Wholes
+pub mod Stopped
+pub mod Apart
+pub mod Keeping
+pub mod KeptOrders
+pub mod KeptLines
 pub mod Bodies
-pub mod Scripts
+pub mod BlockBodies
+pub mod Steps
+pub mod Resumed
+pub mod Texts
+pub mod OneReading

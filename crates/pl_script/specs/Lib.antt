@@ -1,2 +1,9 @@
+pub mod Outcomes
+pub mod Lines
+pub mod Forms
+pub mod Orders
+pub mod Early
 pub mod Script
+pub mod Kept
 pub mod Reading
+pub mod Grammar

@@ -1,114 +1,135 @@
--- What a script is, and which commands it has.
-use Rattle.std.specs.Prelude.{◌≡◌, ℕ, ◌-◌, ◌≤◌, ◌^◌, ◌==◌, nat_le, Bool, ◌&&◌, ◌||◌, if◌then◌else◌, Option, Some, None, is_some, List, [], ◌∷◌, ◌++◌, length, take, slice_index, codes}
-use Rattle.std.specs.Option.{option_map, option_and_then}
-use Rattle.std.specs.List.{slice_split, list_all, find, flat_map, All}
+-- What a script is, and the first breach of a text that is none.
+use Rattle.std.specs.Prelude.{ℕ, zero, suc, ◌+◌, nat_lt, Bool, false, ◌&&◌, if◌then◌else◌, Option, Some, None, is_some, Result, Ok, Err, List, [], ◌∷◌, ◌++◌, take, codes}
+use Rattle.std.specs.List.{position, position_or_len, flat_map}
+use Rattle.std.specs.Option.{option_map, option_map_or, option_and_then, ok_or}
 use Rattle.std.specs.Str.{bytes_eq}
-use Rattle.std.specs.Char.{is_ascii_alphanumeric}
-use Rattle.pl_units.specs.declared.Refusal.{Refusal}
-use Rattle.pl_units.specs.declared.Refusal.TheVariants.{Fault, NoMemory}
-use Rattle.pl_script.specs.declared.script.ScriptFault.{ScriptFault}
-use Rattle.pl_script.specs.declared.script.ScriptFault.TheVariants.{BadLine}
-use Rattle.pl_script.specs.declared.script.Block.{Block}
-use Rattle.pl_script.specs.declared.script.Command.{Command}
-use Rattle.pl_script.specs.declared.script.Command.TheVariants.{Load, Apply, Export}
+use Rattle.pl_edit.specs.Data.{Data}
+use Rattle.pl_script.specs.declared.script.Line.{Line}
+use Rattle.pl_script.specs.declared.fault.ScriptFault.{ScriptFault}
+use Rattle.pl_script.specs.declared.fault.ScriptFault.TheVariants.{NoHead, BadLine, BadSession, SameData, CutData, TooMany}
+use Rattle.pl_script.specs.Outcomes.{and_then, mapped}
+use Rattle.pl_script.specs.Lines.{lines_of, line_text, words_of, line_words, after_word, is_passed_over}
+use Rattle.pl_script.specs.Forms.{is_name, whole_of, session_of}
+use Rattle.pl_script.specs.Orders.{one_of, two_of, block_named, order_of}
+use Rattle.pl_script.specs.Early.{unless, early_fault, early_workers}
 
--- a text without the line end at its end
-abbrev pub without_last_end : List ℕ → List ℕ
-without_last_end bytes = if slice_index bytes (length bytes - 1) == 10 then take (length bytes - 1) bytes else bytes
+-- what a text says: the number of workers, the blocks in order, and the command lines in order
+pub record Script : Type 0 where
+  pub workers : ℕ
+  pub blocks : List Data
+  pub lines : List Line
 
--- the lines of a text: its parts between bytes 10, where one at the end of the text begins no further line
-abbrev pub lines_of : List ℕ → List (List ℕ)
-lines_of bytes = slice_split (λ b. b == 10) (without_last_end bytes)
+-- a fault at a line, counted from 1
+pub record Breach : Type 0 where
+  pub line : ℕ
+  pub fault : ScriptFault
 
--- the words of a line: its parts between spaces
-abbrev pub words_of : List ℕ → List (List ℕ)
-words_of line = slice_split (λ b. b == 32) line
+abbrev pub breach : {X : Type 0} → ℕ → ScriptFault → Result X Breach
+breach number fault = Err (record { line = number; fault = fault })
 
--- an ASCII letter, a digit, `_`, `-` or `.`
-abbrev pub is_name_byte : ℕ → Bool
-is_name_byte b = is_ascii_alphanumeric b || (b == 95 || (b == 45 || b == 46))
+-- at the line of this number
+abbrev pub at : {X : Type 0} → ℕ → Result X ScriptFault → Result X Breach
+at number (Ok x) = Ok x
+at number (Err fault) = breach number fault
 
--- 1 to 64 such bytes
-abbrev pub is_name : List ℕ → Bool
-is_name name = nat_le 1 (length name) && (nat_le (length name) 64 && list_all is_name_byte name)
+-- the 10,001st command is one too many
+abbrev pub counted : ℕ → Line → Result Line ScriptFault
+counted before line = if nat_lt before 10000 then Ok line else Err TooMany
 
--- the name in the words of a block's first line, `data NAME`
-abbrev pub name_in_head : List (List ℕ) → Option (List ℕ)
-name_in_head (word ∷ name ∷ []) = if bytes_eq word (codes "data") && is_name name then Some name else None
-name_in_head _ = None
+-- the command line of a number, after so many others
+abbrev pub command_in : List Data → ℕ → ℕ → List (List ℕ) → List ℕ → Result Line ScriptFault
+command_in blocks before number [] text = Err BadSession
+command_in blocks before number (word ∷ words) text =
+    option_map_or (λ s. and_then (order_of blocks words (after_word text)) (λ o. counted before (record { number = number; session = s; command = o }))) (session_of word) (Err BadSession)
+
+abbrev pub command_of : List Data → ℕ → ℕ → List ℕ → Result Line ScriptFault
+command_of blocks before number text = unless (early_fault (words_of text)) (command_in blocks before number (words_of text) text)
+
+-- the command lines from the line of a number on, after so many others
+abbrev pub commands_in : List Data → ℕ → ℕ → List (List ℕ) → Result (List Line) Breach
+commands_in blocks before number [] = Ok []
+commands_in blocks before number (line ∷ lines) =
+    if is_passed_over (line_words line) then commands_in blocks before (number + 1) lines
+    else and_then (at number (command_of blocks before number (line_text line))) (λ first. mapped (λ more. first ∷ more) (commands_in blocks (before + 1) (number + 1) lines))
+
+-- `.end`, and perhaps one byte 13
+abbrev pub is_block_end : List ℕ → Bool
+is_block_end line = bytes_eq (line_text line) (codes ".end")
 
 -- the lines with a line end after each
 abbrev pub with_ends : List (List ℕ) → List ℕ
 with_ends lines = flat_map (λ line. line ++ 10 ∷ []) lines
 
--- the block that is written in these lines, but for its last line, `.end`
-abbrev pub block_of : List (List ℕ) → Option Block
-block_of [] = None
-block_of (head ∷ lines) = option_map (λ name. record { name = name; bytes = with_ends lines }) (name_in_head (words_of head))
+-- whether the words are those of a data line
+abbrev pub is_data : List (List ℕ) → Bool
+is_data [] = false
+is_data (word ∷ words) = bytes_eq word (codes "data")
 
--- the first block of a name
-abbrev pub block_named : List Block → List ℕ → Option Block
-block_named blocks name = find (λ block. bytes_eq block.name name) blocks
+-- the name in the words of a data line
+abbrev pub name_in : Option (List ℕ × List ℕ) → Result (List ℕ) ScriptFault
+name_in None = Err BadLine
+name_in (Some w) = if is_name w.1 then Ok w.1 else Err BadLine
 
--- the command of one word after the session
-abbrev pub plain_command : List ℕ → Option Command
-plain_command word = if bytes_eq word (codes "apply") then Some Apply else (if bytes_eq word (codes "export") then Some Export else None)
+abbrev pub data_name : List (List ℕ) → Result (List ℕ) ScriptFault
+data_name words = name_in (two_of words)
 
--- the command in the words of a line, after these blocks
-abbrev pub command_in : List Block → List (List ℕ) → Option Command
-command_in blocks (session ∷ word ∷ []) = if bytes_eq session (codes "1") then plain_command word else None
-command_in blocks (session ∷ word ∷ name ∷ block ∷ []) =
-    if bytes_eq session (codes "1") && (bytes_eq word (codes "load") && is_name name) then option_map (λ found. Load name found) (block_named blocks block) else None
-command_in blocks _ = None
+-- the lines before the first `.end`, if one comes
+abbrev pub body_of : List (List ℕ) → Option (List (List ℕ))
+body_of lines = option_map (λ n. take n lines) (position is_block_end lines)
 
-abbrev pub command_of : List Block → List ℕ → Option Command
-command_of blocks line = command_in blocks (words_of line)
+-- the block of a name whose lines come next, after these blocks
+abbrev pub named_block : List Data → List (List ℕ) → List ℕ → Result Data ScriptFault
+named_block blocks lines name =
+    if is_some (block_named blocks name) then Err SameData else ok_or (option_map (λ body. record { name = name; bytes = with_ends body }) (body_of lines)) CutData
 
--- the command of each line, where each line has one
-abbrev pub commands_of : List Block → List (List ℕ) → Option (List Command)
-commands_of blocks [] = Some []
-commands_of blocks (line ∷ lines) = option_and_then (λ command. option_map (λ commands. command ∷ commands) (commands_of blocks lines)) (command_of blocks line)
+-- the block of a data line's words and of the lines after it
+abbrev pub block_in : List Data → List (List ℕ) → List (List ℕ) → Result Data ScriptFault
+block_in blocks words lines = and_then (data_name words) (named_block blocks lines)
 
--- at most 10,000 such lines
-abbrev pub few_commands_of : List Block → List (List ℕ) → Option (List Command)
-few_commands_of blocks lines = if nat_le (length lines) 10000 then commands_of blocks lines else None
+-- blocks and then command lines, from the line of a number on, where so many lines are still those of the last block
+abbrev pub body_in : ℕ → ℕ → List Data → List (List ℕ) → Result (List Data × List Line) Breach
+body_in within number blocks [] = Ok (blocks, [])
+body_in (suc within) number blocks (line ∷ lines) = body_in within (number + 1) blocks lines
+body_in zero number blocks (line ∷ lines) =
+    if is_passed_over (line_words line) then body_in 0 (number + 1) blocks lines
+    else (if is_data (line_words line) then and_then (at number (block_in blocks (line_words line) lines)) (λ block. body_in (position_or_len is_block_end lines + 1) (number + 1) (blocks ++ block ∷ []) lines)
+    else mapped (λ found. (blocks, found)) (commands_in blocks 0 number (line ∷ lines)))
 
--- these blocks and a further one, where its name is new
-abbrev pub with_block : List Block → Block → Option (List Block)
-with_block blocks block = if is_some (block_named blocks block.name) then None else Some (blocks ++ block ∷ [])
+abbrev pub with_workers : ℕ → Result (List Data × List Line) Breach → Result Script Breach
+with_workers workers body = mapped (λ found. record { workers = workers; blocks = found.0; lines = found.1 }) body
 
--- the commands in lines that are parted at the lines `.end`: each part but the last is a block, and the last has the commands
-abbrev pub script_in : List Block → List (List (List ℕ)) → Option (List Command)
-script_in blocks [] = None
-script_in blocks (lines ∷ []) = few_commands_of blocks lines
-script_in blocks (lines ∷ next ∷ parts) = option_and_then (λ more. script_in more (next ∷ parts)) (option_and_then (with_block blocks) (block_of lines))
+-- the number in the words of a line after the word `workers`
+abbrev pub workers_number : List (List ℕ) → Result (Option ℕ) ScriptFault
+workers_number words = and_then (ok_or (option_and_then (λ word. whole_of 8 word) (one_of words)) BadLine) (λ n. unless (early_workers n) (Ok (Some n)))
 
-abbrev pub is_block_end : List ℕ → Bool
-is_block_end line = bytes_eq line (codes ".end")
+-- the number of workers in a line's words, or that they are those of another line
+abbrev pub workers_in : List (List ℕ) → Result (Option ℕ) ScriptFault
+workers_in [] = Ok None
+workers_in (word ∷ words) = if bytes_eq word (codes "workers") then workers_number words else Ok None
 
--- the commands in the lines of a script
-abbrev pub script_in_lines : List (List ℕ) → Option (List Command)
-script_in_lines [] = None
-script_in_lines (head ∷ lines) = if bytes_eq head (codes "plater 1") then script_in [] (slice_split is_block_end lines) else None
+-- behind the line of a number, which has a number of workers or is another one
+abbrev pub at_workers : Option ℕ → ℕ → List ℕ → List (List ℕ) → Result Script Breach
+at_workers None number line lines = with_workers 0 (body_in 0 number [] (line ∷ lines))
+at_workers (Some workers) number line lines = with_workers workers (body_in 0 (number + 1) [] lines)
 
--- the commands of a script, if the text is one
-abbrev pub script_of : List ℕ → Option (List Command)
-script_of bytes = script_in_lines (lines_of bytes)
+-- the script in the lines after the head, from the line of a number on
+abbrev pub after_head : ℕ → List (List ℕ) → Result Script Breach
+after_head number [] = with_workers 0 (Ok ([], []))
+after_head number (line ∷ lines) =
+    if is_passed_over (line_words line) then after_head (number + 1) lines
+    else and_then (at number (workers_in (line_words line))) (λ found. at_workers found number line lines)
 
--- a refused text is no script, and its fault a bad line, at line 0
-abbrev pub IsRefused : List ℕ → Refusal ScriptFault → Type 0
-IsRefused bytes (Fault line fault) = (line ≡ 0) × (fault ≡ BadLine) × (script_of bytes ≡ None)
-IsRefused bytes NoMemory = Unit {0}
+abbrev pub is_version : Option (List ℕ × List ℕ) → Bool
+is_version None = false
+is_version (Some w) = bytes_eq w.0 (codes "plater") && bytes_eq w.1 (codes "1")
 
-abbrev pub IsShortBlock : Block → Type 0
-IsShortBlock block = length block.bytes ≤ 2 ^ 28
+abbrev pub is_head : List (List ℕ) → Bool
+is_head words = is_version (two_of words)
 
--- a block that is loaded is short
-abbrev pub IsShortCommand : Command → Type 0
-IsShortCommand (Load name block) = IsShortBlock block
-IsShortCommand _ = Unit {0}
+abbrev pub script_in : List (List ℕ) → Result Script Breach
+script_in [] = breach 1 NoHead
+script_in (head ∷ lines) = if is_head (line_words head) then after_head 2 lines else breach 1 NoHead
 
--- what a script keeps
-pub record IsScript (commands : List Command) : Type 0 where
-  pub few : length commands ≤ 10000
-  pub short : All IsShortCommand commands
+-- the script of a text, or its first breach
+abbrev pub script_of : List ℕ → Result Script Breach
+script_of bytes = script_in (lines_of bytes)

@@ -1,11 +1,21 @@
-//! The script of a session: blocks of data, and commands on them.
+//! The text of a script: workers, blocks of data, and the command lines of sessions.
 #![tactic(auto)]
 
-mod parts;
+mod early;
+pub mod fault;
+mod forms;
+pub mod laws;
+mod line;
+mod lines;
+mod numbers;
 mod read;
 pub mod script;
 #[cfg(test)]
 mod tests;
+mod verb;
+mod words;
 
+pub use fault::ScriptFault;
+pub use laws::script_texts_have_one_reading;
 pub use read::read_script;
-pub use script::{Block, Command, Script, ScriptFault};
+pub use script::{Blocks, Line, Lines, Script};

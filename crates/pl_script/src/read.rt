@@ -1,135 +1,263 @@
 // Reads a script.
-ghost use Rattle.std.specs.Prelude.{◌≡◌, ◌+◌, ◌≤◌, ◌^◌, [], ◌∷◌, length, IfOk, IfErr, IfSome, Some, None};
+ghost use Rattle.std.specs.Prelude.{◌≡◌, ◌⊎◌, ◌+◌, ◌≤◌, ◌^◌, ℕ, List, [], ◌∷◌, ◌++◌, length, IfOk, IfErr, IfSome, MatchResult, OnOk, OnSome, Ok, Err, None, true};
+ghost use Rattle.pl_units.specs.declared.Refusal.TheVariants as refusals;
+ghost use Rattle.pl_edit.specs.Data.{Data};
 ghost use Rattle.std.specs.Option.{option_map};
-ghost use Rattle.std.specs.List.{slice_split, list_all, All};
-ghost use Rattle.pl_script.specs.Script.{without_last_end, words_of, is_name, is_name_byte, is_block_end, name_in_head, block_named, plain_command, command_of, IsShortBlock, IsShortCommand, few_commands_of, script_in, script_of, IsRefused};
-ghost use Rattle.pl_script.specs.Reading.{parts_left, size_left, IsBody, IsBlock};
+ghost use Rattle.pl_script.specs.Outcomes.{and_then, mapped};
+ghost use Rattle.pl_script.specs.declared.fault.ScriptFault.{ScriptFault as Fault};
+ghost use Rattle.pl_script.specs.Lines.{lines_of, words_of, line_words};
+ghost use Rattle.pl_script.specs.Orders.{block_named};
+ghost use Rattle.pl_script.specs.Grammar.{IsScriptText, IsFirstBreach};
+ghost use Rattle.pl_script.specs.Script.{Script as Said, at, script_in, script_of, after_head, at_workers, body_in, commands_in, with_workers, workers_in, is_head, is_data, data_name, block_in, body_of, with_ends, is_block_end};
+ghost use Rattle.pl_script.specs.Forms.{is_name};
+ghost use Rattle.pl_script.specs.Kept.{HaveBlocks};
+ghost use Rattle.pl_script.specs.Reading.{lines_left, size_left, number_left, HasRoom, IsAfterBlock, IsTaken, IsOther, Answers, Stops, Refuses, Gives};
 
-use crate::parts::Parts;
-use crate::script::{Block, Command, Script, ScriptFault};
+use crate::early::early_workers;
+use crate::fault::{LineStop, ScriptFault};
+use crate::forms::is_name;
+use crate::line::command_of;
+use crate::lines::LinesLeft;
+use crate::numbers::small_of;
+use crate::script::{Blocks, Line, Lines, Script};
+use crate::words::{is_passed_over, line_text, next_word, one_word, two_words};
+use pl_edit::Block;
 use pl_units::{NoMemory, Refusal, Shared, Text};
 use std::alloc::Global;
 use std::sync::Arc;
 
-// The most commands of a script.
-const MOST_COMMANDS: usize = 10_000;
-
-/// The script of a text. `BadLine`, at line 0, where the text is not of a script's form.
+/// The script of a text of at most 2^28 bytes: the head `plater 1`; perhaps a line `workers N`; blocks, each a line
+/// `data NAME`, its lines and a line `.end`; command lines `S COMMAND`, at most 10,000. Empty lines and those that begin with
+/// `#` are passed over outside blocks. A text that is none is refused at its first breach, with the breach's line counted
+/// from 1. Sessions beside the first, the command `after` and workers above 0 are not taken yet.
 pub fn read_script(alloc: Global, bytes: &[u8]) -> Result<Script, Refusal<ScriptFault>>
     requires { length bytes.now ≤ 2 ^ 28 }
-    ensures script { IfOk result (λ script. script_of bytes.now ≡ Some script) }
-    ensures refused { IfErr result (λ refusal. IsRefused bytes.now refusal) }
+    ensures script { IfOk result (IsScriptText (lines_of bytes.now)) }
+    // The lines of a script are read, and no other script than theirs is given, unless memory runs out.
+    ensures taken { (script : Said) → IsScriptText (lines_of bytes.now) script → MatchResult result (λ read. read ≡ script) (λ e. e ≡ refusals.NoMemory) }
+    ensures refused { (line : ℕ) (fault : Fault) → result ≡ Err (refusals.Fault line fault) → IsFirstBreach (lines_of bytes.now) line fault }
+    // The first breach of a text is named, unless memory runs out before it.
+    ensures named { (line : ℕ) (fault : Fault) → IsFirstBreach (lines_of bytes.now) line fault → MatchResult result (λ _. ⊥) (λ e. (e ≡ refusals.Fault line fault) ⊎ (e ≡ refusals.NoMemory)) }
+    // The call answers what the text says, unless memory runs out.
+    ensures reading { Gives result (script_of bytes.now) }
 {
-    match script(alloc, bytes) {
-        Ok(Some(script)) => Ok(script),
-        Ok(None) => Err(Refusal::Fault {
-            line: 0,
-            fault: ScriptFault::BadLine,
-        }),
-        Err(NoMemory) => Err(Refusal::NoMemory),
-    }
+    read_lines(alloc, LinesLeft::of(bytes))
 }
 
-// The script of a text, if it is one.
-fn script(alloc: Global, bytes: &[u8]) -> Result<Option<Script>, NoMemory>
-    requires { length bytes.now ≤ 2 ^ 28 }
-    ensures { IfOk result (λ found. found ≡ script_of bytes.now) }
+// The script of all lines of a text.
+fn read_lines(alloc: Global, mut lines: LinesLeft<'_>) -> Result<Script, Refusal<ScriptFault>>
+    requires first { number_left lines ≡ 1 }
+    requires size { size_left lines ≤ 2 ^ 28 + 1 }
+    ensures { Gives result (script_in (lines_left lines.entry)) }
 {
-    let mut lines = Parts::of(without_last_end(bytes), b'\n');
     match lines.next() {
-        Some(head) if head == b"plater 1".as_slice() => after_head(alloc, lines),
-        _ => Ok(None),
+        Some(head) if is_head(line_text(head)) => after_head(alloc, lines),
+        _ => Err(Refusal::Fault {
+            line: 1,
+            fault: ScriptFault::NoHead,
+        }),
     }
 }
 
-// A text without the line end at its end.
-fn without_last_end(bytes: &[u8]) -> &[u8]
-    ensures text { result.now ≡ without_last_end bytes.now }
-    ensures size { length result.now ≤ length bytes.now }
+// Whether a line without its end is the head.
+fn is_head(text: &[u8]) -> bool
+    ensures { result ≡ is_head (words_of text.now) }
 {
-    match bytes {
-        [front @ .., b'\n'] => front,
-        _ => bytes,
+    match two_words(text) {
+        Some((word, version)) => word == b"plater".as_slice() && version == b"1".as_slice(),
+        None => false,
     }
 }
 
-// The script whose lines after the head these are: blocks, and then commands.
-fn after_head(alloc: Global, mut lines: Parts<'_>) -> Result<Option<Script>, NoMemory>
-    requires { size_left lines ≤ 2 ^ 28 + 1 }
-    ensures { IfOk result (λ found. found ≡ script_in [] (slice_split is_block_end (parts_left lines.entry))) }
+// The script whose lines after the head these are.
+fn after_head(alloc: Global, mut lines: LinesLeft<'_>) -> Result<Script, Refusal<ScriptFault>>
+    requires { HasRoom lines }
+    ensures { Gives result (after_head (number_left lines.entry) (lines_left lines.entry)) }
 {
-    let mut blocks = Vec::new(alloc);
+    let mut here = lines;
     while let Some(line) = lines.next() {
-        let Some(name) = name_in_head(line) else {
-            return commands(alloc, &blocks, line, lines);
-        };
-        let Some(block) = block(alloc, name, &mut lines)? else {
-            return Ok(None);
-        };
-        if block_named(&blocks, name).is_some() {
-            return Ok(None);
+        if !is_passed_over(line) {
+            return at_workers(alloc, line, here, lines);
         }
-        blocks.push(block)?;
+        here = lines;
     }
-    Ok(Some(Script::of(Vec::new(alloc))))
+    body_in(alloc, 0, lines)
 }
 
-// The name in a block's first line.
-fn name_in_head(line: &[u8]) -> Option<&[u8]>
-    ensures { option_map (λ name. name.now) result ≡ name_in_head (words_of line.now) }
+// The number of workers in a line, or that it is another line.
+fn workers_in(line: &[u8]) -> Result<Option<u8>, ScriptFault>
+    ensures workers { result ≡ workers_in (line_words line.now) }
+    ensures few { IfOk result (λ found. IfSome found (λ workers. workers ≤ 8)) }
 {
-    let mut words = Parts::of(line, b' ');
-    let word = words.next()?;
-    let name = words.next()?;
-    if words.next().is_none() && word == b"data".as_slice() && is_name(name) {
-        return Some(name);
-    }
-    None
-}
-
-// Whether a word is a name: 1 to 64 letters, digits, `_`, `-` and `.`.
-fn is_name(word: &[u8]) -> bool
-    ensures { result ≡ is_name word.now }
-{
-    1 <= word.len() && word.len() <= 64 && are_name_bytes(word)
-}
-
-fn are_name_bytes(word: &[u8]) -> bool
-    ensures { result ≡ list_all is_name_byte word.now }
-{
-    word.iter().all(|byte| is_name_byte(*byte))
-}
-
-fn is_name_byte(byte: u8) -> bool
-    ensures { result ≡ is_name_byte byte }
-{
-    byte.is_ascii_alphanumeric() || byte == b'_' || byte == b'-' || byte == b'.'
-}
-
-// The block of a name whose lines come next, if a line `.end` comes.
-fn block(
-    alloc: Global,
-    name: &[u8],
-    lines: &mut Parts<'_>,
-) -> Result<Option<Shared<Block>>, NoMemory>
-    requires { size_left lines.old ≤ 2 ^ 28 + 1 }
-    ensures block { IfOk result (λ found. IsBlock name.now (parts_left lines.old) (parts_left lines.new) found) }
-    ensures size { size_left lines.new ≤ size_left lines.old }
-    ensures short { IfOk result (λ found. IfSome found IsShortBlock) }
-{
-    let Some(bytes) = body(alloc, lines)? else {
+    let Some((word, rest)) = next_word(line_text(line)) else {
         return Ok(None);
     };
-    let name = Text::copy_of(alloc, name)?;
-    let block = Arc::new(alloc, Block { name, bytes })?;
-    Ok(Some(Shared::of(block)))
+    if word != b"workers".as_slice() {
+        return Ok(None);
+    }
+    let Some(number) = one_word(rest) else {
+        return Err(ScriptFault::BadLine);
+    };
+    let Some(workers) = small_of(8, number) else {
+        return Err(ScriptFault::BadLine);
+    };
+    match early_workers(workers) {
+        Some(fault) => Err(fault),
+        None => Ok(Some(workers)),
+    }
 }
 
-// The lines up to the next line `.end`, with a line end after each, if such a line comes.
-fn body(alloc: Global, lines: &mut Parts<'_>) -> Result<Option<Text>, NoMemory>
-    ensures body { IfOk result (λ found. IsBody (parts_left lines.old) (parts_left lines.new) found) }
+// The script from a line on that is not passed over: here, with the lines after it.
+fn at_workers(
+    alloc: Global,
+    line: &[u8],
+    here: LinesLeft<'_>,
+    lines: LinesLeft<'_>,
+) -> Result<Script, Refusal<ScriptFault>>
+    requires here { HasRoom here }
+    requires room { HasRoom lines }
+    requires line { lines_left here ≡ line.now ∷ lines_left lines }
+    requires number { number_left lines ≡ number_left here + 1 }
+    ensures { Gives result (and_then (at (number_left here.entry) (workers_in (line_words line.now)))
+        (λ found. at_workers found (number_left here.entry) line.now (lines_left lines.entry))) }
+{
+    match workers_in(line) {
+        Ok(Some(workers)) => body_in(alloc, workers, lines),
+        Ok(None) => body_in(alloc, 0, here),
+        Err(fault) => Err(Refusal::Fault {
+            line: here.number(),
+            fault,
+        }),
+    }
+}
+
+// The script of so many workers whose blocks and commands these lines are.
+fn body_in(
+    alloc: Global,
+    workers: u8,
+    mut lines: LinesLeft<'_>,
+) -> Result<Script, Refusal<ScriptFault>>
+    requires few { workers ≤ 8 }
+    requires room { HasRoom lines }
+    ensures { Gives result (with_workers workers (body_in 0 (number_left lines.entry) [] (lines_left lines.entry))) }
+{
+    let mut blocks = Blocks::none(alloc);
+    let mut here = lines;
+    while let Some(line) = lines.next() {
+        let taken = block_line(alloc, &mut blocks, line, here.number(), &mut lines)?;
+        if !taken {
+            return with_commands(alloc, workers, blocks, here);
+        }
+        here = lines;
+    }
+    with_commands(alloc, workers, blocks, here)
+}
+
+// Passes over a line, or takes the block that it begins; not so where the line does neither. The lines are those after it.
+fn block_line(
+    alloc: Global,
+    blocks: &mut Blocks,
+    line: &[u8],
+    number: u32,
+    lines: &mut LinesLeft<'_>,
+) -> Result<bool, Refusal<ScriptFault>>
+    requires room { HasRoom lines.old }
+    requires number { number_left lines.old ≡ number + 1 }
+    ensures taken { IfOk result (λ taken. IsTaken taken (body_in 0 number blocks.old (line.now ∷ lines_left lines.old)) (body_in 0 (number_left lines.new) blocks.new (lines_left lines.new))) }
+    ensures other { IfOk result (λ taken. IsOther taken (body_in 0 number blocks.old (line.now ∷ lines_left lines.old))
+        (mapped (λ found. (blocks.new, found)) (commands_in blocks.new 0 number (line.now ∷ lines_left lines.old)))) }
+    ensures refused { IfErr result (λ e. Refuses e (body_in 0 number blocks.old (line.now ∷ lines_left lines.old))) }
+    ensures room { OnOk result (HasRoom lines.new) }
     ensures size { size_left lines.new ≤ size_left lines.old }
-    ensures short { IfOk result (λ found. IfSome found (λ bytes. length bytes + 1 ≤ size_left lines.old)) }
+{
+    if is_passed_over(line) {
+        return Ok(true);
+    }
+    if !is_data(line) {
+        return Ok(false);
+    }
+    match take_block(alloc, blocks, line, lines) {
+        Ok(()) => Ok(true),
+        Err(stop) => Err(stop.at(number)),
+    }
+}
+
+// Puts the block of a data line, whose lines come next, after the others.
+fn take_block(
+    alloc: Global,
+    blocks: &mut Blocks,
+    line: &[u8],
+    lines: &mut LinesLeft<'_>,
+) -> Result<(), LineStop>
+    requires { HasRoom lines.old }
+    ensures taken { OnOk result ((block : Data) × (block_in blocks.old (line_words line.now) (lines_left lines.old) ≡ Ok block) × (blocks.new ≡ blocks.old ++ block ∷ [])) }
+    ensures refused { IfErr result (λ stop. Stops stop (block_in blocks.old (line_words line.now) (lines_left lines.old))) }
+    ensures rest { OnOk result (IsAfterBlock lines.old lines.new) }
+    ensures size { size_left lines.new ≤ size_left lines.old }
+{
+    let block = block_in(alloc, blocks, line, lines)?;
+    blocks.add(block)?;
+    Ok(())
+}
+
+// Whether a line is a data line.
+fn is_data(line: &[u8]) -> bool
+    ensures { result ≡ is_data (line_words line.now) }
+{
+    match next_word(line_text(line)) {
+        Some((word, _)) => word == b"data".as_slice(),
+        None => false,
+    }
+}
+
+// The name in a data line.
+fn data_name(line: &[u8]) -> Result<&[u8], ScriptFault>
+    ensures { mapped (λ name. name.now) result ≡ data_name (line_words line.now) }
+{
+    match two_words(line_text(line)) {
+        Some((_, name)) if is_name(name) => Ok(name),
+        _ => Err(ScriptFault::BadLine),
+    }
+}
+
+// The block of a data line whose lines come next, after these blocks.
+fn block_in(
+    alloc: Global,
+    blocks: &Blocks,
+    line: &[u8],
+    lines: &mut LinesLeft<'_>,
+) -> Result<Shared<Block>, LineStop>
+    requires { HasRoom lines.old }
+    ensures block { Answers result (block_in blocks.now (line_words line.now) (lines_left lines.old)) }
+    ensures fresh { IfOk result (λ block. block_named blocks.now block.name ≡ None) }
+    ensures named { IfOk result (λ block. is_name block.name ≡ true) }
+    ensures rest { OnOk result (IsAfterBlock lines.old lines.new) }
+    ensures size { size_left lines.new ≤ size_left lines.old }
+{
+    let name = match data_name(line) {
+        Ok(name) => name,
+        Err(fault) => return Err(LineStop::Fault(fault)),
+    };
+    if blocks.named(name).is_some() {
+        return Err(LineStop::Fault(ScriptFault::SameData));
+    }
+    let Some(bytes) = body_of(alloc, lines)? else {
+        return Err(LineStop::Fault(ScriptFault::CutData));
+    };
+    let name = Text::copy_of(alloc, name)?;
+    match Arc::new(alloc, Block::of(name, bytes)) {
+        Ok(block) => Ok(Shared::of(block)),
+        Err(_) => Err(LineStop::NoMemory),
+    }
+}
+
+// The bytes of the lines up to the next line `.end`, if such a line comes.
+fn body_of(alloc: Global, lines: &mut LinesLeft<'_>) -> Result<Option<Text>, NoMemory>
+    requires { HasRoom lines.old }
+    ensures body { IfOk result (λ found. found ≡ option_map (λ body. with_ends body) (body_of (lines_left lines.old))) }
+    ensures rest { IfOk result (λ found. OnSome found (IsAfterBlock lines.old lines.new)) }
+    ensures short { IfOk result (λ found. IfSome found (λ bytes. length bytes ≤ 2 ^ 28)) }
+    ensures size { size_left lines.new ≤ size_left lines.old }
 {
     let mut bytes = Text::copy_of(alloc, &[])?;
     while let Some(line) = lines.next() {
@@ -142,106 +270,77 @@ fn body(alloc: Global, lines: &mut Parts<'_>) -> Result<Option<Text>, NoMemory>
     Ok(None)
 }
 
-// Whether a line is `.end`.
+// Whether a line is `.end`, perhaps with one byte 13.
 fn is_block_end(line: &[u8]) -> bool
     ensures { result ≡ is_block_end line.now }
 {
-    line == b".end".as_slice()
+    line_text(line) == b".end".as_slice()
 }
 
-// The block of a name.
-fn block_named<'a>(blocks: &'a [Shared<Block>], name: &[u8]) -> Option<&'a Shared<Block>>
-    ensures { option_map (λ block. block.now) result ≡ block_named blocks.now name.now }
-{
-    blocks.iter().find(|block| block.get().name.bytes() == name)
-}
-
-// The script of these command lines, after these blocks.
-fn commands(
+// The script of so many workers and of these blocks whose command lines these are.
+fn with_commands(
     alloc: Global,
-    blocks: &[Shared<Block>],
-    first: &[u8],
-    mut lines: Parts<'_>,
-) -> Result<Option<Script>, NoMemory>
-    requires { All IsShortBlock blocks.now }
-    ensures { IfOk result (λ found. found ≡ few_commands_of blocks.now (first.now ∷ parts_left lines.entry)) }
+    workers: u8,
+    blocks: Blocks,
+    lines: LinesLeft<'_>,
+) -> Result<Script, Refusal<ScriptFault>>
+    requires few { workers ≤ 8 }
+    requires room { HasRoom lines }
+    ensures { Gives result (with_workers workers (mapped (λ found. (blocks, found)) (commands_in blocks 0 (number_left lines.entry) (lines_left lines.entry)))) }
 {
-    let mut commands = Vec::new(alloc);
-    let mut next = Some(first);
-    while let Some(line) = next {
-        if commands.len() == MOST_COMMANDS {
-            return Ok(None);
-        }
-        let Some(command) = command(alloc, blocks, line)? else {
-            return Ok(None);
-        };
-        commands.push(command)?;
-        next = lines.next();
+    let lines = commands_in(alloc, &blocks, lines)?;
+    Ok(Script::of(workers, blocks, lines))
+}
+
+// The command lines in these lines.
+fn commands_in(
+    alloc: Global,
+    blocks: &Blocks,
+    mut lines: LinesLeft<'_>,
+) -> Result<Lines, Refusal<ScriptFault>>
+    requires { HasRoom lines }
+    ensures lines { Gives result (commands_in blocks.now 0 (number_left lines.entry) (lines_left lines.entry)) }
+    ensures blocks { IfOk result (λ lines. HaveBlocks blocks.now lines) }
+{
+    let mut found = Vec::new(alloc);
+    let mut number = lines.number();
+    while let Some(line) = lines.next() {
+        take_line(alloc, blocks, &mut found, line, number)?;
+        number = lines.number();
     }
-    Ok(Some(Script::of(commands)))
+    Ok(Lines::of(found))
 }
 
-// The command of a line, after these blocks.
-fn command(
+// Passes over a line, or puts its command after the others.
+fn take_line(
     alloc: Global,
-    blocks: &[Shared<Block>],
+    blocks: &Blocks,
+    found: &mut Vec<Line>,
     line: &[u8],
-) -> Result<Option<Command>, NoMemory>
-    requires { All IsShortBlock blocks.now }
-    ensures command { IfOk result (λ found. found ≡ command_of blocks.now line.now) }
-    ensures short { IfOk result (λ found. IfSome found IsShortCommand) }
+    number: u32,
+) -> Result<(), Refusal<ScriptFault>>
+    requires short { length line.now ≤ 2 ^ 28 }
+    ensures ok { OnOk result ((rest : List (List ℕ)) →
+        mapped (λ more. found.old.items ++ more) (commands_in blocks.now (length found.old.items) number (line.now ∷ rest))
+        ≡ mapped (λ more. found.new.items ++ more) (commands_in blocks.now (length found.new.items) (number + 1) rest)) }
+    ensures err { IfErr result (λ e. (rest : List (List ℕ)) → Refuses e (commands_in blocks.now (length found.old.items) number (line.now ∷ rest))) }
 {
-    let mut words = Parts::of(line, b' ');
-    let Some(session) = words.next() else {
-        return Ok(None);
-    };
-    let Some(word) = words.next() else {
-        return Ok(None);
-    };
-    if session != b"1".as_slice() {
-        return Ok(None);
+    if is_passed_over(line) {
+        return Ok(());
     }
-    let Some(name) = words.next() else {
-        return Ok(plain_command(word));
-    };
-    let Some(block) = words.next() else {
-        return Ok(None);
-    };
-    if words.next().is_none() && word == b"load".as_slice() && is_name(name) {
-        return load(alloc, blocks, name, block);
-    }
-    Ok(None)
-}
-
-// The command of one word after the session.
-fn plain_command(word: &[u8]) -> Option<Command>
-    ensures command { result ≡ plain_command word.now }
-    ensures short { IfSome result IsShortCommand }
-{
-    if word == b"apply".as_slice() {
-        Some(Command::Apply)
-    } else if word == b"export".as_slice() {
-        Some(Command::Export)
-    } else {
-        None
+    match command_of(alloc, blocks, found.len(), number, line_text(line)) {
+        Ok(line) => add_line(found, line),
+        Err(stop) => Err(stop.at(number)),
     }
 }
 
-// The command that loads a block, if there is one of that name.
-fn load(
-    alloc: Global,
-    blocks: &[Shared<Block>],
-    name: &[u8],
-    block: &[u8],
-) -> Result<Option<Command>, NoMemory>
-    requires { All IsShortBlock blocks.now }
-    ensures command { IfOk result (λ found. found ≡ option_map (λ found. Command.Load name.now found) (block_named blocks.now block.now)) }
-    ensures short { IfOk result (λ found. IfSome found IsShortCommand) }
+// Puts a command line after the others.
+fn add_line(found: &mut Vec<Line>, line: Line) -> Result<(), Refusal<ScriptFault>>
+    ensures ok { OnOk result (found.new.items ≡ found.old.items ++ line ∷ []) }
+    ensures err { IfErr result (λ e. e ≡ refusals.NoMemory) }
 {
-    let Some(found) = block_named(blocks, block) else {
-        return Ok(None);
-    };
-    let name = Text::copy_of(alloc, name)?;
-    let block = found.copied()?;
-    Ok(Some(Command::Load { name, block }))
+    match found.push(line) {
+        Ok(()) => Ok(()),
+        Err(_) => Err(Refusal::NoMemory),
+    }
 }

@@ -1,88 +1,205 @@
-//! Scripts, and why a text is none.
+//! Scripts.
 ghost use Rattle.std.specs.Prelude.{◌≡◌};
 
-use pl_units::{Shared, Text};
+use indexmap::IndexMap;
+use pl_edit::{Block, Edit};
+use pl_machine::Command;
+use pl_units::{NoMemory, Shared};
+use std::alloc::Global;
 use std::marker::Model;
-use thiserror::Error;
 
-/// Data under a name of 1 to 64 bytes, each an ASCII letter, a digit, `_`, `-` or `.`.
+/// A command line.
 #[derive(Drop)]
-pub struct Block {
-    /// What commands call the block by.
-    pub name: Text,
-    /// The block's lines, with a byte 10 after each.
-    pub bytes: Text,
+pub struct Line {
+    /// The line's number in the script, counted from 1.
+    pub number: u32,
+    /// The session whose command it is, from 1 to 16.
+    pub session: u8,
+    /// The command.
+    pub command: Command<Edit>,
 }
 
-/// A command of a session.
+/// The blocks of a script, each by its name, in the order of their lines: seen as their list. Each has a name of 1 to 64
+/// bytes, each an ASCII letter, a digit, `_`, `-` or `.`, and no two have one name.
 #[derive(Drop)]
-pub enum Command {
-    /// Takes the bytes of a block for the mesh of this name.
-    Load {
-        /// The name of the mesh, of the same form as a block's.
-        name: Text,
-        /// The block that stands in the same script.
-        block: Shared<Block>,
-    },
-    /// Slices with what was loaded.
-    Apply,
-    /// Writes what was sliced.
-    Export,
+pub struct Blocks {
+    blocks: IndexMap<Vec<u8>, Shared<Block>>,
 }
 
-/// At most 10,000 commands, in the order of their lines. A block that is loaded has at most 2^28 bytes.
+impl Model for Blocks {
+    ghost use Rattle.std.specs.Prelude.{List};
+    ghost use Rattle.indexmap.specs.IndexMap.{values};
+    ghost use Rattle.pl_edit.specs.Data.{Data};
+    ghost use Rattle.pl_script.specs.Kept.{IsKeyed, IsBlocks};
+
+    ghost Value = { List Data };
+
+    ghost view = { λ b. values b.blocks };
+
+    ghost invariant = { λ b. IsKeyed b.blocks.entries (λ key. key.items) × IsBlocks (values b.blocks) };
+}
+
+impl Blocks {
+    ghost use Rattle.std.specs.Prelude.{◌≡◌, ◌++◌, ◌∷◌, [], None, true, OnOk, OnErr};
+    ghost use Rattle.std.specs.Option.{option_map};
+    ghost use Rattle.pl_script.specs.Forms.{is_name};
+    ghost use Rattle.pl_script.specs.Orders.{block_named};
+    ghost use Rattle.pl_script.specs.Kept.{IsBlocks};
+
+    /// No blocks.
+    pub(crate) fn none(alloc: Global) -> Blocks
+        ensures { result ≡ [] }
+    {
+        Blocks {
+            blocks: IndexMap::new(alloc),
+        }
+    }
+
+    /// The block of a name.
+    pub fn named(&self, name: &[u8]) -> Option<&Shared<Block>>
+        ensures block { option_map (λ block. block.now) result ≡ block_named self.now name.now }
+        ensures blocks { IsBlocks self.now }
+    {
+        self.blocks.get(name)
+    }
+
+    /// The blocks, in the order of their lines.
+    pub fn all(&self) -> &[Shared<Block>]
+        ensures blocks { result.now ≡ self.now }
+        ensures kept { IsBlocks self.now }
+    {
+        self.blocks.values().as_slice()
+    }
+
+    /// Adds a block of a new name. After want of memory the blocks are as before.
+    pub(crate) fn add(&mut self, block: Shared<Block>) -> Result<(), NoMemory>
+        requires new { block_named self.old block.name ≡ None }
+        requires named { is_name block.name ≡ true }
+        ensures ok { OnOk result (self.new ≡ self.old ++ block ∷ []) }
+        ensures err { OnErr result (self.new ≡ self.old) }
+    {
+        let alloc = *self.blocks.allocator();
+        let name = Vec::from_slice(alloc, block.get().name())?;
+        self.blocks.insert(name, block)?;
+        Ok(())
+    }
+}
+
+/// The command lines of a script, in order: at most 10,000, each of a session from 1 to 16, with its words of their forms and
+/// in their ranges.
+#[derive(Drop)]
+pub struct Lines {
+    lines: Vec<Line>,
+}
+
+impl Model for Lines {
+    ghost use Rattle.std.specs.Prelude.{List};
+    ghost use Rattle.pl_script.specs.declared.script.Line.{Line};
+    ghost use Rattle.pl_script.specs.Kept.{AreLines};
+
+    ghost Value = { List Line };
+
+    ghost view = { λ l. l.lines.items };
+
+    ghost invariant = { λ l. AreLines l.lines.items };
+}
+
+impl Lines {
+    ghost use Rattle.pl_script.specs.Kept.{AreLines};
+
+    /// These command lines.
+    pub(crate) fn of(lines: Vec<Line>) -> Lines
+        requires { AreLines lines.items }
+        ensures { result ≡ lines.items }
+    {
+        Lines { lines }
+    }
+
+    /// The command lines, in order.
+    pub fn all(&self) -> &[Line]
+        ensures lines { result.now ≡ self.now }
+        ensures kept { AreLines self.now }
+    {
+        &self.lines
+    }
+
+    /// The command lines, in order, as a list of their own.
+    pub fn into_vec(self) -> Vec<Line>
+        ensures lines { result.items ≡ self }
+        ensures kept { AreLines self }
+    {
+        self.lines
+    }
+}
+
+/// A script as it was read: the number of workers, at most 8, the blocks, and the command lines. A block that a command
+/// carries is one of the script's.
 #[derive(Drop)]
 pub struct Script {
-    commands: Vec<Command>,
+    workers: u8,
+    blocks: Blocks,
+    lines: Lines,
 }
 
 impl Model for Script {
-    ghost use Rattle.std.specs.Prelude.{List};
-    ghost use Rattle.pl_script.specs.declared.script.Command.{Command};
-    ghost use Rattle.pl_script.specs.Script.{IsScript};
+    ghost use Rattle.pl_script.specs.Script.{Script};
+    ghost use Rattle.pl_script.specs.Kept.{IsScript};
 
-    ghost Value = { List Command };
+    ghost Value = { Script };
 
-    ghost view = { λ s. s.commands.items };
+    ghost view = { λ s. record { workers = s.workers; blocks = s.blocks; lines = s.lines } };
 
-    ghost invariant = { λ s. IsScript s.commands.items };
+    ghost invariant = { λ s. IsScript (record { workers = s.workers; blocks = s.blocks; lines = s.lines }) };
 }
 
 impl Script {
-    ghost use Rattle.pl_script.specs.Script.{IsScript};
+    ghost use Rattle.std.specs.Prelude.{◌≡◌, ◌≤◌};
+    ghost use Rattle.pl_script.specs.Kept.{HaveBlocks};
 
-    /// A script of these commands.
-    pub(crate) fn of(commands: Vec<Command>) -> Script
-        requires { IsScript commands.items }
-        ensures { result ≡ commands.items }
+    /// A script of these parts.
+    pub(crate) fn of(workers: u8, blocks: Blocks, lines: Lines) -> Script
+        requires few { workers ≤ 8 }
+        requires blocks { HaveBlocks blocks lines }
+        ensures { result ≡ record { workers = workers; blocks = blocks; lines = lines } }
     {
-        Script { commands }
+        Script {
+            workers,
+            blocks,
+            lines,
+        }
     }
 
-    /// The commands, in the order of their lines.
-    pub fn commands(&self) -> &[Command]
-        ensures commands { result.now ≡ self.now }
-        ensures script { IsScript self.now }
+    /// The number of workers, at most 8.
+    pub fn workers(&self) -> u8
+        ensures workers { result ≡ self.now.workers }
+        ensures few { self.now.workers ≤ 8 }
     {
-        &self.commands
+        self.workers
     }
 
-    /// The commands, in the order of their lines.
-    pub fn into_commands(self) -> Vec<Command>
-        ensures commands { result.items ≡ self }
-        ensures script { IsScript self }
+    /// The blocks.
+    pub fn blocks(&self) -> &Blocks
+        ensures { result.now ≡ self.now.blocks }
     {
-        self.commands
+        &self.blocks
     }
-}
 
-/// Why a text is no script.
-#[derive(Clone, Copy, Debug, PartialEq, Eq, Error)]
-pub enum ScriptFault {
-    /// The text is not of a script's form.
-    #[error("BadLine")]
-    BadLine,
-    /// The text has more bytes than a script may have. `read_script` never gives it: the caller that reads the text does.
-    #[error("TooLong")]
-    TooLong,
+    /// The command lines. A block that one carries is one of the script's.
+    pub fn lines(&self) -> &Lines
+        ensures lines { result.now ≡ self.now.lines }
+        ensures blocks { HaveBlocks self.now.blocks self.now.lines }
+    {
+        &self.lines
+    }
+
+    /// The workers, the blocks and the command lines. A block that a line carries is one of the blocks.
+    pub fn into_parts(self) -> (u8, Blocks, Lines)
+        ensures workers { result.0 ≡ self.workers }
+        ensures few { self.workers ≤ 8 }
+        ensures blocks { result.1 ≡ self.blocks }
+        ensures lines { result.2 ≡ self.lines }
+        ensures carried { HaveBlocks self.blocks self.lines }
+    {
+        (self.workers, self.blocks, self.lines)
+    }
 }

@@ -1,34 +1,208 @@
-//! The words of the faults, and a script that is read.
-use crate::{Command, ScriptFault, read_script};
+//! Scripts that are read, and texts that are none.
+use crate::{Line, Script, ScriptFault, read_script};
+use pl_edit::Edit;
+use pl_machine::Command;
+use pl_units::{Nm, Refusal};
+use std::alloc::Global;
 use std::test::Fail;
+
+// Reads a text of a test.
+fn read(alloc: Global, text: &[u8]) -> Result<Result<Script, Refusal<ScriptFault>>, Fail> {
+    if text.len() > 1_000_000 {
+        return Err(Fail::from("a long text"));
+    }
+    Ok(read_script(alloc, text))
+}
 
 #[test]
 fn faults_are_told_by_their_names(rt: HostRuntime) -> Result<(), Fail> {
-    let bad_line = format!(in rt.alloc(); "{}", ScriptFault::BadLine)?;
-    let too_long = format!(in rt.alloc(); "{}", ScriptFault::TooLong)?;
-    assert_eq!(rt; bad_line.as_str(), "BadLine");
-    assert_eq!(rt; too_long.as_str(), "TooLong");
+    let rows = [
+        (ScriptFault::NoHead, "NoHead"),
+        (ScriptFault::BadLine, "BadLine"),
+        (ScriptFault::UnknownCommand, "UnknownCommand"),
+        (ScriptFault::BadSession, "BadSession"),
+        (ScriptFault::NoData, "NoData"),
+        (ScriptFault::SameData, "SameData"),
+        (ScriptFault::CutData, "CutData"),
+        (ScriptFault::TooMany, "TooMany"),
+        (ScriptFault::Stuck, "Stuck"),
+        (ScriptFault::TooLong, "TooLong"),
+    ];
+    for (fault, name) in rows {
+        let text = format!(in rt.alloc(); "{fault}")?;
+        assert_eq!(rt; text.as_str(), name);
+    }
     Ok(())
 }
 
 #[test]
-fn two_blocks_and_three_commands_are_read(rt: HostRuntime) -> Result<(), Fail> {
+fn first_breaches_are_named_at_their_lines(rt: HostRuntime) -> Result<(), Fail> {
+    let rows: [(&[u8], u32, ScriptFault); 37] = [
+        (b"", 1, ScriptFault::NoHead),
+        (b"\nplater 1\n", 1, ScriptFault::NoHead),
+        (b"#\nplater 1\n", 1, ScriptFault::NoHead),
+        (b"plater 2\n", 1, ScriptFault::NoHead),
+        (b"plater 1 1\n", 1, ScriptFault::NoHead),
+        (b"plater 1\nworkers 1\n", 2, ScriptFault::BadLine),
+        (b"plater 1\nworkers 8\n", 2, ScriptFault::BadLine),
+        (b"plater 1\nworkers 00\n", 2, ScriptFault::BadLine),
+        (b"plater 1\nworkers\n", 2, ScriptFault::BadLine),
+        (
+            b"plater 1\nworkers 0\nworkers 0\n",
+            3,
+            ScriptFault::BadSession,
+        ),
+        (
+            b"plater 1\n1 apply\ndata a\n.end\n",
+            3,
+            ScriptFault::BadSession,
+        ),
+        (b"plater 1\ndata\n.end\n", 2, ScriptFault::BadLine),
+        (b"plater 1\ndata a/b\n", 2, ScriptFault::BadLine),
+        (b"plater 1\ndata a\nsolid\n", 2, ScriptFault::CutData),
+        (
+            b"plater 1\ndata a\n .end\n.end \n.end\r\r\n",
+            2,
+            ScriptFault::CutData,
+        ),
+        (
+            b"plater 1\ndata a\n.end\ndata a\n.end\n",
+            4,
+            ScriptFault::SameData,
+        ),
+        (
+            b"plater 1\ndata a\n.end\ndata a\n",
+            4,
+            ScriptFault::SameData,
+        ),
+        (b"plater 1\n17 apply\n", 2, ScriptFault::BadSession),
+        (b"plater 1\n17 after 1 1\n", 2, ScriptFault::BadSession),
+        (b"plater 1\n0 apply\n", 2, ScriptFault::BadSession),
+        (b"plater 1\n01 apply\n", 2, ScriptFault::BadSession),
+        (b"plater 1\n+1 apply\n", 2, ScriptFault::BadSession),
+        (b"plater 1\n1\n", 2, ScriptFault::UnknownCommand),
+        (b"plater 1\n1 Apply\n", 2, ScriptFault::UnknownCommand),
+        (b"plater 1\n1 apply\r \n", 2, ScriptFault::UnknownCommand),
+        (b"plater 1\n1 apply now\n", 2, ScriptFault::BadLine),
+        (b"plater 1\n1 set\n", 2, ScriptFault::BadLine),
+        (b"plater 1\n1 turn 0 4\n", 2, ScriptFault::BadLine),
+        (b"plater 1\n1 delete 256\n", 2, ScriptFault::BadLine),
+        (b"plater 1\n1 copy 0 1 2000\n", 2, ScriptFault::BadLine),
+        (b"plater 1\n1 load a b\n", 2, ScriptFault::NoData),
+        (
+            b"plater 1\ndata B\n.end\n1 load a b\n",
+            4,
+            ScriptFault::NoData,
+        ),
+        (b"plater 1\n1 load a b/\n", 2, ScriptFault::BadLine),
+        (b"plater 1\n2 fly\n", 2, ScriptFault::BadSession),
+        (b"plater 1\n16 apply\n", 2, ScriptFault::BadSession),
+        (b"plater 1\n1 after x\n", 2, ScriptFault::UnknownCommand),
+        (b"plater 1\n1 after 1 0\n", 2, ScriptFault::UnknownCommand),
+        (
+            b"plater 1\ndata a\n1 x\n\n.end\n\n# c\n1 x\n",
+            8,
+            ScriptFault::UnknownCommand,
+        ),
+    ];
+    for (text, line, fault) in rows {
+        let Err(refusal) = read(rt.alloc(), text)? else {
+            return Err(Fail::from("a text was taken"));
+        };
+        assert_eq!(rt;
+            refusal,
+            Refusal::Fault { line, fault },
+            "{fault:?} at {line}"
+        );
+    }
+    Ok(())
+}
+
+// Whether a command line is `load cube a` at line 12, with the bytes of the first block.
+fn is_load(line: &Line) -> bool {
+    match &line.command {
+        Command::Edit(Edit::Load { name, block }) => {
+            line.number == 12
+                && line.session == 1
+                && name.bytes() == b"cube".as_slice()
+                && block.get().bytes() == b"solid\r\n\nend\n".as_slice()
+        }
+        _ => false,
+    }
+}
+
+fn is_move(line: &Line) -> bool {
+    matches!(
+        &line.command,
+        Command::Edit(Edit::Move {
+            place: 0,
+            instance: 255,
+            x: Nm(1_500_000),
+            y: Nm(-2_000_000),
+        })
+    )
+}
+
+fn is_set(line: &Line) -> bool {
+    match &line.command {
+        Command::Edit(Edit::Set { key, value }) => {
+            key.bytes() == b"notes".as_slice() && value.bytes() == b"a \x0b b".as_slice()
+        }
+        _ => false,
+    }
+}
+
+fn has_lines(script: &Script) -> bool {
+    match script.lines().all() {
+        [load, shift, set, status] => {
+            is_load(load)
+                && is_move(shift)
+                && is_set(set)
+                && matches!(&status.command, Command::Status)
+        }
+        _ => false,
+    }
+}
+
+fn has_blocks(script: &Script) -> bool {
+    let blocks = script.blocks();
+    match blocks.all() {
+        [first, second] => {
+            first.get().name() == b"a".as_slice()
+                && second.get().name() == b"A".as_slice()
+                && blocks.named(b"A").is_some()
+                && blocks.named(b"b").is_none()
+        }
+        _ => false,
+    }
+}
+
+#[test]
+fn blocks_and_commands_are_read(rt: HostRuntime) -> Result<(), Fail> {
     let text =
-        b"plater 1\ndata a\nsolid\n\nendsolid\n.end\ndata b.stl\n.end\n1 load cube a\n1 apply\n1 export\n";
-    let script = read_script(rt.alloc(), text).ok().ok_or("refused")?;
-    let [
-        Command::Load { name, block },
-        Command::Apply,
-        Command::Export,
-    ] = script.commands()
-    else {
-        return Err(Fail::from("other commands"));
+        b"plater \t1\r\n\nworkers 0\n# data\ndata a\nsolid\r\n\nend\n.end\r\ndata A\n.end\n \t1 load cube a\r\n1 move 0 255 1.5 -2\n1 set notes  a \x0b b \r\n1 status";
+    let script = read(rt.alloc(), text)?.ok().ok_or("refused")?;
+    assert!(rt; script.workers() == 0 && has_blocks(&script) && has_lines(&script));
+    Ok(())
+}
+
+#[test]
+fn ten_thousand_commands_are_taken_and_no_more(rt: HostRuntime) -> Result<(), Fail> {
+    let mut text = Vec::new(rt.alloc());
+    text.extend_from_slice(b"plater 1\n")?;
+    for _ in 0..10_000 {
+        text.extend_from_slice(b"1 apply\n")?;
+    }
+    let script = read(rt.alloc(), &text)?.ok().ok_or("refused")?;
+    assert_eq!(rt; script.lines().all().len(), 10_000);
+    text.extend_from_slice(b"1 apply\n")?;
+    let Err(refusal) = read(rt.alloc(), &text)? else {
+        return Err(Fail::from("a text was taken"));
     };
-    assert_eq!(rt; name.bytes(), b"cube".as_slice());
-    assert_eq!(rt; block.get().name.bytes(), b"a".as_slice());
-    assert_eq!(rt;
-        block.get().bytes.bytes(),
-        b"solid\n\nendsolid\n".as_slice()
-    );
+    let expected = Refusal::Fault {
+        line: 10_002,
+        fault: ScriptFault::TooMany,
+    };
+    assert_eq!(rt; refusal, expected);
     Ok(())
 }

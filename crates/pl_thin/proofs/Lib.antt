@@ -1,2 +1,4 @@
+pub mod Filled
+pub mod Filtered
 pub mod Prints
 pub mod Slicings

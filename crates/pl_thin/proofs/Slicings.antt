@@ -9,9 +9,9 @@ use Rattle.pl_layers.specs.declared.heights.Heights.{Heights}
 use Rattle.pl_layers.specs.Heights.{layer_count_of, z_of}
 use Rattle.pl_layers.specs.Slices.{slice_of}
 use Rattle.pl_thin.specs.declared.output.Sliced.{Sliced}
-use Rattle.pl_thin.specs.Plate.{fixed_heights, top_of, sliced_of}
+use Rattle.pl_thin.specs.Layers.{fixed_heights, top_of, sliced_of}
 
-one_more : {X : Type 0} (f : ℕ → X) (k : ℕ) (old new : List X) (x : X) → old ≡ map f (range_with_len 0 k) → new ≡ old ++ x ∷ [] → x ≡ f k → new ≡ map f (range_with_len 0 (k + 1))
+pub one_more : {X : Type 0} (f : ℕ → X) (k : ℕ) (old new : List X) (x : X) → old ≡ map f (range_with_len 0 k) → new ≡ old ++ x ∷ [] → x ≡ f k → new ≡ map f (range_with_len 0 (k + 1))
 one_more f k old new x e n is =
     n ∙ ap (λ l. l ++ x ∷ []) e ∙ ap (λ v. map f (range_with_len 0 k) ++ v ∷ []) is ∙ sym (map-range_with_len_more f 0 k k (omega arith))
 

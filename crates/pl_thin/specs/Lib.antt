@@ -1,8 +1,7 @@
-pub mod Load
-pub mod Edits
-pub mod Plate
+pub mod Layers
+pub mod Print
 pub mod Problem
-pub mod Same
 pub mod Slots
 pub mod Thin
+pub mod NameLaws
 pub mod ThinLaws

@@ -1,59 +1,134 @@
-//! The G-code of the plate, from the layers of its object.
-ghost use Rattle.std.specs.Prelude.{◌≡◌, ◌++◌, ◌<◌, ◌%◌, ◌^◌, ◌==◌, ◌-ℤ◌, ◌*ℤ◌, length, pos, slice_get, unsigned_abs, IfOk, OnOk};
-ghost use Rattle.std.specs.List.{All};
+//! The G-code of the plate, from the layers of its objects.
+ghost use Rattle.std.specs.Prelude.{◌≡◌, ◌++◌, ◌<◌, ◌%◌, ◌^◌, ◌==◌, ◌-ℤ◌, ◌*ℤ◌, pos, unsigned_abs, IfOk, OnOk};
 ghost use Rattle.pl_units.specs.Decimal.{fixed};
 ghost use Rattle.pl_grid.specs.NearStrokes.{IsNearStroke};
 ghost use Rattle.pl_grid.specs.Strokes.{axis_of};
-ghost use Rattle.pl_gcode.specs.Gcode.{height_text, infill_pace, origin, temperatures_text};
-ghost use Rattle.pl_gcode.specs.Paths.{stroke_path};
-ghost use Rattle.pl_thin.specs.Plate.{fixed_heights, fixed_settings, solid_strokes, print_of, sliced_gcode, rise_line, stroke_amount};
+ghost use Rattle.pl_gcode.specs.Gcode.{height_at, height_text, infill_pace, origin, temperatures_text};
+ghost use Rattle.pl_gcode.specs.Paths.{line_of, stroke_path};
+ghost use Rattle.pl_thin.specs.Layers.{fixed_heights};
+ghost use Rattle.pl_thin.specs.Print.{fixed_settings, tops_in, the_longer, highest, print_of, gcode_of_parts, rise_line, object_line, layer_paths, cells_text, part_at, plane_in, stroke_amount};
 
-use crate::output::Sliced;
+use crate::output::{Parts, Sliced};
 use crate::slicing::heights;
 use pl_fill::strokes;
 use pl_gcode::extrusion;
-use pl_grid::{Axis, Stroke};
-use pl_units::{Digits, Nm, NoMemory, Text, append_pieces, to_micro};
+use pl_grid::{Axis, Plane, Stroke};
+use pl_units::{Digits, Nm, NoMemory, Shared, Text, append_pieces, to_micro};
 use std::alloc::Global;
 
-/// The G-code of an object of these layers at 0 0, whose cells are all solid.
-pub(crate) fn gcode(alloc: Global, sliced: &Sliced) -> Result<Text, NoMemory>
-    ensures { IfOk result (λ text. text ≡ sliced_gcode sliced.now) }
+/// The G-code of a plate with these layers, whose cells are all solid.
+pub(crate) fn gcode(alloc: Global, parts: &Parts) -> Result<Text, NoMemory>
+    ensures { IfOk result (λ text. text ≡ gcode_of_parts parts.now) }
 {
     let mut out = Text::copy_of(
         alloc,
         b"; headless plater\nG21\nG90\nM83\nM140 S60\nM104 S215\nM190 S60\nM109 S215\n",
     )?;
-    for i in 0..sliced.tops.tops().len() {
-        put_height(alloc, &mut out, sliced, i)?;
+    let tops = highest(parts.parts());
+    for i in 0..tops.len() {
+        put_height(alloc, &mut out, parts, &tops[i], i)?;
     }
     out.append(b"M104 S0\nM140 S0\n")?;
     Ok(out)
 }
 
-// Appends height i.
-fn put_height(alloc: Global, out: &mut Text, sliced: &Sliced, i: usize) -> Result<(), NoMemory>
-    requires { i < length sliced.now.tops }
-    ensures { OnOk result (out.new ≡ out.old ++ height_text (print_of sliced.now) i) }
+// The longer of two lists of tops, the first where they have one length.
+fn the_longer<'a>(some: &'a [Nm], others: &'a [Nm]) -> &'a [Nm]
+    ensures { result.now ≡ the_longer some.now others.now }
 {
-    put_rise(out, &sliced.tops.tops()[i])?;
+    if others.len() <= some.len() {
+        some
+    } else {
+        others
+    }
+}
+
+// The tops of the layers of a place.
+fn tops_in(part: &Option<Shared<Sliced>>) -> &[Nm]
+    ensures { result.now ≡ tops_in part.now }
+{
+    match part {
+        Some(sliced) => sliced.get().tops.tops(),
+        None => &[],
+    }
+}
+
+// The tops of the object that has most layers.
+fn highest(parts: &[Option<Shared<Sliced>>]) -> &[Nm]
+    ensures { result.now ≡ highest parts.now }
+{
+    let mut tops: &[Nm] = &[];
+    for place in (0..parts.len()).rev() {
+        tops = the_longer(tops_in(&parts[place]), tops);
+    }
+    tops
+}
+
+// Appends height i, whose top this is.
+fn put_height(
+    alloc: Global,
+    out: &mut Text,
+    parts: &Parts,
+    top: &Nm,
+    i: usize,
+) -> Result<(), NoMemory>
+    requires { height_at (print_of parts.now) i ≡ top.now }
+    ensures { OnOk result (out.new ≡ out.old ++ height_text (print_of parts.now) i) }
+{
+    put_rise(out, top)?;
     put_temperatures(out, i)?;
-    out.append(b";OBJECT 0 0\n")?;
-    for stroke in &layer_strokes(alloc, sliced, i)? {
-        put_stroke(out, stroke)?;
+    for place in 0..16u8 {
+        put_object(alloc, out, parts, place, i)?;
     }
     Ok(())
 }
 
-// The strokes of layer i.
-fn layer_strokes(alloc: Global, sliced: &Sliced, i: usize) -> Result<Vec<Stroke>, NoMemory>
-    ensures strokes { IfOk result (λ v. v.items ≡ solid_strokes i (slice_get sliced.now.planes i)) }
-    ensures near { IfOk result (λ v. All IsNearStroke v.items) }
+// Appends layer i of the object at a place, where there is one.
+fn put_object(
+    alloc: Global,
+    out: &mut Text,
+    parts: &Parts,
+    place: u8,
+    i: usize,
+) -> Result<(), NoMemory>
+    ensures { OnOk result (out.new ≡ out.old ++ cells_text place i (plane_in (part_at parts.now place) i)) }
 {
-    match sliced.planes.planes().get(i) {
-        Some(plane) => strokes(alloc, plane, along(i), 1),
-        None => Ok(Vec::new(alloc)),
+    match parts.plane(place, i) {
+        Some(plane) => put_cells(alloc, out, place, plane, i),
+        None => Ok(()),
     }
+}
+
+// Appends the cells of layer i of the object at a place.
+fn put_cells(
+    alloc: Global,
+    out: &mut Text,
+    place: u8,
+    plane: &Plane,
+    i: usize,
+) -> Result<(), NoMemory>
+    ensures { OnOk result (out.new ≡ out.old ++ (object_line place ++ layer_paths i plane.now)) }
+{
+    put_name(out, place)?;
+    put_layer(alloc, out, plane, i)
+}
+
+// Appends the line that begins an object.
+fn put_name(out: &mut Text, place: u8) -> Result<(), NoMemory>
+    ensures { OnOk result (out.new ≡ out.old ++ object_line place) }
+{
+    let place = Digits::whole(u64::from(place));
+    append_pieces(out, &[b";OBJECT ", place.bytes(), b" 0\n"])
+}
+
+// Appends the paths of the cells of layer i.
+fn put_layer(alloc: Global, out: &mut Text, plane: &Plane, i: usize) -> Result<(), NoMemory>
+    ensures { OnOk result (out.new ≡ out.old ++ layer_paths i plane.now) }
+{
+    for stroke in &strokes(alloc, plane, along(i), 1)? {
+        put_stroke(out, stroke)?;
+    }
+    Ok(())
 }
 
 // Even layers go along rows.

@@ -1,19 +1,15 @@
-//! The kind of print of this stage: one mesh in one place, with fixed settings.
+//! The kind of print of this stage: each object of a plate once, at 0 0, with fixed settings.
 #![tactic(auto)]
 
-pub mod edit;
 mod gcode;
+mod names;
 pub mod output;
-pub mod plate;
 mod problem;
-pub mod reply;
 mod slicing;
+mod slots;
 #[cfg(test)]
 mod tests;
 pub mod thin;
 
-pub use edit::ThinEdit;
-pub use output::{Sliced, ThinOutput, Tops};
-pub use plate::{Object, ThinPlate};
-pub use reply::{EditRefusal, EditReply};
+pub use output::{Parts, Sliced, ThinOutput, Tops};
 pub use thin::{Thin, ThinBench, ThinJob};

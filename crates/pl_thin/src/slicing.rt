@@ -1,7 +1,7 @@
-//! The layers of the plate's object.
+//! The layers of an object.
 ghost use Rattle.std.specs.Prelude.{◌≡◌, IfOk};
 ghost use Rattle.pl_layers.specs.Heights.{AreHeights};
-ghost use Rattle.pl_thin.specs.Plate.{fixed_heights, sliced_of};
+ghost use Rattle.pl_thin.specs.Layers.{fixed_heights, sliced_of};
 
 use crate::output::{Sliced, Tops};
 use pl_grid::Planes;

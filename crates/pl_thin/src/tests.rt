@@ -1,7 +1,10 @@
-use crate::{EditRefusal, EditReply, Thin, ThinEdit, ThinOutput, ThinPlate};
+//! Problems, slots, layers, G-code and names.
+use crate::gcode::gcode;
+use crate::slicing::slice_mesh;
+use crate::{Parts, Thin, ThinOutput};
+use pl_model::{Block, Edit, Plate};
 use pl_ports::ScriptedProbe;
-use pl_script::Block;
-use pl_stl::StlFault;
+use pl_stl::read_stl;
 use pl_tech::{Kept, Problem, Ran, Slot, Technology};
 use pl_units::{Nm, NoMemory, Shared, Text};
 use std::alloc::Global;
@@ -21,79 +24,60 @@ const GCODE: &[u8] =
 const LONG: &[u8] =
     b"solid long\nfacet normal 0 0 0\nouter loop\nvertex 0 0 0\nvertex 250.0001 0 0\nvertex 0 1 1\nendloop\nendfacet\nendsolid long\n";
 
-// A text that is none of a mesh, by the word of its second line.
-const CUT: &[u8] = b"solid x\nfacets";
+// The lines of the second object, after those of the first, at each height.
+const SECOND: &[u8] =
+    b";OBJECT 1 0\nG1 X0.000 Y0.200 F7800\nG1 F4800\nG1 X0.800 Y0.200 E0.02660\nG1 X0.800 Y0.600 F7800\nG1 F4800\nG1 X0.000 Y0.600 E0.02660\n";
 
-// A load of these bytes.
-fn load(alloc: Global, name: &[u8], bytes: &[u8]) -> Result<Option<ThinEdit>, NoMemory> {
+// Loads a block into the least free place.
+fn load(alloc: Global, plate: &mut Plate, bytes: &[u8]) -> Result<(), NoMemory> {
     if bytes.len() > 1 << 28 {
-        return Ok(None);
+        return Err(NoMemory);
     }
-    let block = Block {
-        name: Text::copy_of(alloc, b"block")?,
-        bytes: Text::copy_of(alloc, bytes)?,
+    let block = Block::of(Text::copy_of(alloc, b"b")?, Text::copy_of(alloc, bytes)?);
+    let edit = Edit::Load {
+        name: Text::copy_of(alloc, b"a")?,
+        block: Shared::of(Arc::new(alloc, block)?),
     };
-    let name = Text::copy_of(alloc, name)?;
-    Ok(Some(ThinEdit::load(name, Shared::of(Arc::new(alloc, block)?))))
-}
-
-// What a load of the first block and one of the second answer, and whether the second changed the plate.
-fn loads<T: Technology<Edit = ThinEdit, Reply = EditReply>>(
-    alloc: Global,
-    first: &[u8],
-    second: &[u8],
-) -> Result<Option<(EditReply, EditReply, bool)>, NoMemory> {
-    let mut plate = T::blank(alloc)?;
-    let Some(edit) = load(alloc, b"first", first)? else {
-        return Ok(None);
-    };
-    let reply = T::edit(alloc, &mut plate, &edit)?;
-    let before = T::copy(alloc, &plate)?;
-    let Some(edit) = load(alloc, b"second", second)? else {
-        return Ok(None);
-    };
-    let then = T::edit(alloc, &mut plate, &edit)?;
-    Ok(Some((reply, then, !T::same(&before, &plate))))
-}
-
-#[test]
-fn a_load_fills_the_place_once(rt: HostRuntime) -> Result<(), Fail> {
-    let filled = EditReply::Object(0);
-    let bad = EditReply::Refused(EditRefusal::BadStl(2, StlFault::BadToken));
-    let full = EditReply::Refused(EditRefusal::FullObjects);
-    let table = [
-        ("cut, then mesh", CUT, BOX, bad, filled, true),
-        ("mesh, then cut", BOX, CUT, filled, bad, false),
-        ("mesh, then another", BOX, LONG, filled, full, false),
-    ];
-    for (name, first, second, reply, then, changed) in &table {
-        let Some(told) = loads::<Thin>(rt.alloc(), first, second)? else {
-            return Err("long".into());
-        };
-        assert!(rt; told.0 == *reply && told.1 == *then, "{name}");
-        assert_eq!(rt; told.2, *changed, "{name}");
-    }
+    let _ = plate.edit(alloc, &edit)?;
     Ok(())
 }
 
-// A plate with the mesh of a block.
-fn plate_of(alloc: Global, block: &[u8]) -> Result<ThinPlate, NoMemory> {
-    let mut plate = Thin::blank(alloc)?;
-    if let Some(edit) = load(alloc, b"cube", block)? {
-        Thin::edit(alloc, &mut plate, &edit)?;
-    }
+// A plate with the meshes of two blocks; an empty block has none.
+fn plate_of<T: Technology<Plate = Plate>>(
+    alloc: Global,
+    first: &[u8],
+    second: &[u8],
+) -> Result<Plate, NoMemory> {
+    let mut plate = T::blank(alloc)?;
+    load(alloc, &mut plate, first)?;
+    load(alloc, &mut plate, second)?;
     Ok(plate)
 }
 
 #[test]
 fn a_plate_has_its_problem_and_its_slots(rt: HostRuntime) -> Result<(), Fail> {
+    let alloc = rt.alloc();
     let table = [
-        ("none", CUT, Some(Problem::Empty), 1),
-        ("box", BOX, None, 2),
-        ("long", LONG, Some(Problem::OutOfBed(0, 0)), 2),
+        (
+            "none",
+            b"".as_slice(),
+            b"".as_slice(),
+            Some(Problem::Empty),
+            1,
+        ),
+        ("one box", BOX, b"".as_slice(), None, 2),
+        ("two boxes", BOX, BOX, None, 3),
+        ("a long one", LONG, BOX, Some(Problem::OutOfBed(0, 0)), 3),
+        (
+            "a long one behind",
+            BOX,
+            LONG,
+            Some(Problem::OutOfBed(1, 0)),
+            3,
+        ),
     ];
-    for (name, block, problem, slots) in &table {
-        let plate = plate_of(rt.alloc(), block)?;
+    for (name, first, second, problem, slots) in &table {
+        let plate = plate_of::<Thin>(alloc, first, second)?;
         assert!(rt; Thin::problem(&plate) == *problem, "{name}");
         assert_eq!(rt; Thin::present(&plate).len(), *slots, "{name}");
     }
@@ -125,7 +109,8 @@ fn first_result<T: Technology, R: Threads + Sync>(
 #[test]
 fn the_first_slot_has_the_layers(rt: HostRuntime) -> Result<(), Fail> {
     let alloc = rt.alloc();
-    let plate = plate_of(alloc, BOX)?;
+    let mut plate = plate_of::<Thin>(alloc, LONG, BOX)?;
+    let _ = plate.edit(alloc, &Edit::Delete { place: 0 })?;
     let stopped = first_result::<Thin, _>(&rt, alloc, &plate, &[true])?;
     assert!(rt; stopped.is_none());
     let Some(ThinOutput::Slices(sliced)) = first_result::<Thin, _>(&rt, alloc, &plate, &[])? else {
@@ -134,65 +119,48 @@ fn the_first_slot_has_the_layers(rt: HostRuntime) -> Result<(), Fail> {
     let sliced = sliced.get();
     assert!(rt; sliced.tops.tops() == [Nm(200_000), Nm(400_000)].as_slice());
     assert_eq!(rt; sliced.planes.planes().len(), 2);
-    for plane in sliced.planes.planes() {
-        assert!(rt; plane.bounds().cols == 2 && plane.bounds().rows == 2);
-        assert!(rt; plane.get(0, 0) && plane.get(1, 0) && plane.get(0, 1) && plane.get(1, 1));
-    }
     Ok(())
 }
 
-// The G-code of a plate that has no problem, from its layers. The second run is stopped, and the third is not.
-fn print<R: Threads + Sync>(
-    rt: &R,
-    alloc: Global,
-    plate: &ThinPlate,
-) -> Result<Option<ThinOutput>, NoMemory> {
-    if Thin::problem(plate).is_some() {
-        return Ok(None);
-    }
-    let mut kept = Kept::new(alloc)?;
-    let mut bench = Thin::bench();
-    let mut probe = ScriptedProbe::new(Vec::new(alloc));
-    let job = Thin::job(alloc, plate, Slot::of(0), &kept)?;
-    let Ran::Done(layers) = Thin::run(rt, alloc, &mut bench, job, &mut probe)? else {
+// The G-code of the layers of a box at places 0 and 1, or at the first alone.
+fn print(alloc: Global, both: bool) -> Result<Option<Text>, NoMemory> {
+    let Ok(mesh) = read_stl(alloc, BOX) else {
         return Ok(None);
     };
-    kept.put(Slot::of(0), Arc::new(alloc, layers)?);
-    let mut probe = ScriptedProbe::new(Vec::from_slice(alloc, &[true])?);
-    let job = Thin::job(alloc, plate, Slot::of(99), &kept)?;
-    let Ran::Stopped = Thin::run(rt, alloc, &mut bench, job, &mut probe)? else {
-        return Ok(None);
-    };
-    let mut probe = ScriptedProbe::new(Vec::new(alloc));
-    let job = Thin::job(alloc, plate, Slot::of(99), &kept)?;
-    match Thin::run(rt, alloc, &mut bench, job, &mut probe)? {
-        Ran::Done(output) => Ok(Some(output)),
-        Ran::Stopped => Ok(None),
+    let sliced = Shared::of(Arc::new(alloc, slice_mesh(alloc, &mesh)?)?);
+    let mut parts = Vec::new(alloc);
+    if both {
+        parts.push(Some(sliced.copied()?))?;
     }
+    parts.push(Some(sliced))?;
+    Ok(Some(gcode(alloc, &Parts::of(parts))?))
 }
 
 #[test]
-fn the_last_slot_has_the_gcode(rt: HostRuntime) -> Result<(), Fail> {
-    let plate = plate_of(rt.alloc(), BOX)?;
-    let Some(output) = print(&rt, rt.alloc(), &plate)? else {
-        return Err("no G-code".into());
+fn each_object_is_printed_at_each_height(rt: HostRuntime) -> Result<(), Fail> {
+    let alloc = rt.alloc();
+    let (Some(one), Some(two)) = (print(alloc, false)?, print(alloc, true)?) else {
+        return Err("no mesh".into());
     };
-    assert_eq!(rt; Thin::bytes(&output).len(), 409);
-    assert!(rt; Thin::bytes(&output) == GCODE);
+    assert!(rt; one.bytes() == GCODE);
+    assert_eq!(rt; two.bytes().len(), 409 + 2 * SECOND.len());
+    assert!(rt; two.bytes().windows(SECOND.len()).any(|part| part == SECOND));
     Ok(())
 }
 
 #[test]
-fn refusals_say_why(rt: HostRuntime) -> Result<(), Fail> {
+fn slots_are_named_by_their_places(rt: HostRuntime) {
     let table = [
-        (
-            EditRefusal::BadStl(2, StlFault::BadToken),
-            "BadStl 2 BadToken",
-        ),
-        (EditRefusal::FullObjects, "FullObjects"),
+        (0, b"0.slice".as_slice()),
+        (6, b"1.slice"),
+        (90, b"15.slice"),
+        (99, b"export"),
+        (1, b""),
+        (96, b""),
     ];
-    for (refusal, text) in &table {
-        assert_eq!(rt; format!(in rt.alloc(); "{refusal}")?.as_str(), *text);
+    for (number, name) in &table {
+        let mut out = [0; 16];
+        let len = Thin::put_name(Slot::of(*number), &mut out);
+        assert!(rt; &out[..len] == *name, "{number}");
     }
-    Ok(())
 }

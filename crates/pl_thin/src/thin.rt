@@ -1,19 +1,16 @@
-//! One object in one place, sliced and printed with fixed settings.
+//! Each object of a plate once, at 0 0, sliced and printed with fixed settings.
 ghost use Rattle.std.specs.Prelude.{◌≡◌, IfOk};
-ghost use Rattle.std.specs.Option.{option_map};
-ghost use Rattle.pl_tech.specs.Kept.{kept_at};
-ghost use Rattle.pl_thin.specs.Thin.{slices_in};
 
-use crate::edit::ThinEdit;
 use crate::gcode::gcode;
-use crate::output::{Sliced, ThinOutput};
-use crate::plate::ThinPlate;
-use crate::problem::mesh_problem;
-use crate::reply::EditReply;
+use crate::names::put_name;
+use crate::output::{Parts, ThinOutput};
+use crate::problem::plate_problem;
 use crate::slicing::slice_mesh;
+use crate::slots::{kept_parts, layer_slots, slots};
+use pl_model::{Edit, EditReply, Plate};
 use pl_ports::Probe;
 use pl_stl::Mesh;
-use pl_tech::{Kept, Problem, Ran, Slot, SlotSet, Technology, put_front};
+use pl_tech::{Kept, Problem, Ran, Slot, SlotSet, Technology};
 use pl_units::{NoMemory, Shared};
 use std::alloc::Global;
 use std::sync::Arc;
@@ -25,7 +22,7 @@ pub enum ThinJob {
     /// To slice a mesh at 0 0.
     Slice(Shared<Mesh>),
     /// To make the G-code of layers that were kept.
-    Export(Shared<Sliced>),
+    Export(Parts),
 }
 
 /// Counts its runs.
@@ -34,8 +31,9 @@ pub struct ThinBench {
     pub runs: u64,
 }
 
-/// One object in one place, 0, of a bed of 625 by 525 cells of 400,000 nm. Slot 0 has the layers of the object, and slot 99
-/// the G-code of the plate, whose cells are all solid.
+/// Each object of a plate once, at 0 0 of a bed of 625 by 525 cells of 400,000 nm, with layers of 0.2 mm, whatever its
+/// instances, its turn and the settings say. Slot 6p has the layers of the object at place p, and slot 99 the G-code of the
+/// plate, whose cells are all solid.
 #[derive(Debug, Drop)]
 pub struct Thin;
 
@@ -43,9 +41,9 @@ impl Technology for Thin {
     ghost use Rattle.pl_thin.specs.Thin.{thin_meaning, job_value};
     ghost use Rattle.pl_thin.specs.ThinLaws.{thin_laws};
 
-    type Plate = ThinPlate;
+    type Plate = Plate;
 
-    type Edit = ThinEdit;
+    type Edit = Edit;
 
     type Reply = EditReply;
 
@@ -65,46 +63,43 @@ impl Technology for Thin {
 
     ghost laws = { thin_laws };
 
-    fn blank(_alloc: Global) -> Result<ThinPlate, NoMemory> {
-        Ok(ThinPlate { object: None })
+    fn blank(alloc: Global) -> Result<Plate, NoMemory> {
+        Plate::blank(alloc)
     }
 
-    fn copy(alloc: Global, plate: &ThinPlate) -> Result<ThinPlate, NoMemory> {
+    fn copy(alloc: Global, plate: &Plate) -> Result<Plate, NoMemory> {
         plate.copied(alloc)
     }
 
-    fn same(a: &ThinPlate, b: &ThinPlate) -> bool {
-        a.is_same(b)
+    fn same(a: &Plate, b: &Plate) -> bool {
+        a.same(b)
     }
 
-    fn edit(alloc: Global, plate: &mut ThinPlate, edit: &ThinEdit) -> Result<EditReply, NoMemory> {
-        plate.load(alloc, edit)
+    fn edit(alloc: Global, plate: &mut Plate, edit: &Edit) -> Result<EditReply, NoMemory> {
+        plate.edit(alloc, edit)
     }
 
-    fn problem(plate: &ThinPlate) -> Option<Problem> {
-        match &plate.object {
-            Some(object) => mesh_problem(object.mesh.get()),
-            None => Some(Problem::Empty),
-        }
+    fn problem(plate: &Plate) -> Option<Problem> {
+        plate_problem(plate)
     }
 
-    fn present(plate: &ThinPlate) -> SlotSet {
-        plate.slots()
+    fn present(plate: &Plate) -> SlotSet {
+        slots(plate)
     }
 
-    fn needs(plate: &ThinPlate, slot: Slot) -> SlotSet {
-        if slot.number() == 99 && plate.object.is_some() {
-            SlotSet::empty().with(Slot::of(0))
+    fn needs(plate: &Plate, slot: Slot) -> SlotSet {
+        if slot.number() == 99 {
+            layer_slots(plate)
         } else {
             SlotSet::empty()
         }
     }
 
-    fn touched(old: &ThinPlate, new: &ThinPlate) -> SlotSet {
-        if old.is_same(new) {
+    fn touched(old: &Plate, new: &Plate) -> SlotSet {
+        if old.same(new) {
             SlotSet::empty()
         } else {
-            old.slots().union(new.slots())
+            slots(old).union(slots(new))
         }
     }
 
@@ -117,21 +112,18 @@ impl Technology for Thin {
     }
 
     fn job(
-        _alloc: Global,
-        plate: &ThinPlate,
+        alloc: Global,
+        plate: &Plate,
         slot: Slot,
         kept: &Kept<ThinOutput>,
     ) -> Result<ThinJob, NoMemory> {
-        let Some(object) = &plate.object else {
-            unreachable!()
-        };
-        if slot.number() == 0 {
-            return Ok(ThinJob::Slice(object.mesh.copied()?));
+        if slot.number() == 99 {
+            return Ok(ThinJob::Export(kept_parts(alloc, plate, kept)?));
         }
-        let Some(sliced) = kept_slices(kept) else {
-            unreachable!()
-        };
-        Ok(ThinJob::Export(sliced.copied()?))
+        match plate.object(slot.number() / 6) {
+            Some(object) => Ok(ThinJob::Slice(object.mesh.copied()?)),
+            None => unreachable!(),
+        }
     }
 
     fn run<R: Threads + Sync, P: Probe>(
@@ -156,13 +148,7 @@ impl Technology for Thin {
     }
 
     fn put_name(slot: Slot, out: &mut [u8; 16]) -> usize {
-        if slot.number() == 0 {
-            return put_front(out, b"0.slice");
-        }
-        if slot.number() == 99 {
-            return put_front(out, b"export");
-        }
-        0
+        put_name(slot, out)
     }
 }
 
@@ -178,21 +164,7 @@ impl ThinJob {
                 let sliced = slice_mesh(alloc, mesh.get())?;
                 Ok(ThinOutput::Slices(Shared::of(Arc::new(alloc, sliced)?)))
             }
-            ThinJob::Export(sliced) => Ok(ThinOutput::Gcode(gcode(alloc, sliced.get())?)),
+            ThinJob::Export(parts) => Ok(ThinOutput::Gcode(gcode(alloc, &parts)?)),
         }
-    }
-}
-
-// The layers that are kept for slot 0.
-fn kept_slices(kept: &Kept<ThinOutput>) -> Option<&Shared<Sliced>>
-    ensures { option_map (λ s. s.now) result ≡ slices_in (kept_at kept.now 0) }
-{
-    let output: &ThinOutput = match kept.get(Slot::of(0)) {
-        Some(output) => output,
-        None => return None,
-    };
-    match output {
-        ThinOutput::Slices(sliced) => Some(sliced),
-        ThinOutput::Gcode(_) => None,
     }
 }

@@ -2,7 +2,7 @@ use Rattle.std.proofs.Common.{◌≡◌, ◌*ℤ◌, pos, arith}
 use Rattle.std.proofs.lemmas.Int.{to_z-of_z}
 use Rattle.pl_units.specs.Decimal.{fixed}
 use Rattle.pl_units.proofs.Fronts.{ok_of_writes}
-use Rattle.pl_thin.specs.Plate.{stroke_amount}
+use Rattle.pl_thin.specs.Print.{stroke_amount}
 use Rattle.pl_thin.proofs.Prints.{stroke_text}
 use Rattle.pl_thin.proofs.gcode.put_stroke.Goals as goal
 

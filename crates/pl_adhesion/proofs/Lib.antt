@@ -1,0 +1,10 @@
+pub mod Places
+pub mod BedLemmas
+pub mod Spans
+pub mod ReachLemmas
+pub mod Descending
+pub mod SkirtLemmas
+pub mod LoopBounds
+pub mod BareLoops
+pub mod BrimLemmas
+pub mod SpreadLemmas

@@ -1,0 +1,77 @@
+-- Script texts line by line, and the first breach of any other text.
+use Rattle.std.specs.Prelude.{◌≡◌, ℕ, ◌+◌, ◌==◌, ◌&&◌, Bool, true, false, not, Some, None, Ok, Err, List, [], ◌∷◌, ◌++◌, length, count_by, All, codes}
+use Rattle.std.specs.Str.{bytes_eq}
+use Rattle.pl_edit.specs.Data.{Data}
+use Rattle.pl_script.specs.declared.script.Line.{Line}
+use Rattle.pl_script.specs.declared.fault.ScriptFault.{ScriptFault}
+use Rattle.pl_script.specs.declared.fault.ScriptFault.TheVariants.{NoHead}
+use Rattle.pl_script.specs.Lines.{line_text, line_words, is_passed_over}
+use Rattle.pl_script.specs.Orders.{block_named}
+use Rattle.pl_script.specs.Script.{Script, is_head, is_data, data_name, is_block_end, with_ends, block_in, workers_in, command_of}
+
+-- a line that is not passed over
+abbrev pub counts : List ℕ → Bool
+counts line = not (is_passed_over (line_words line))
+
+abbrev pub is_workers : List (List ℕ) → Bool
+is_workers [] = false
+is_workers (word ∷ words) = bytes_eq word (codes "workers")
+
+-- a line of these words, behind these lines, gives the number of workers: of the lines before it only the head counts
+abbrev pub sets_workers : List (List ℕ) → List (List ℕ) → Bool
+sets_workers before words = count_by counts before == 1 && is_workers words
+
+abbrev pub is_empty : List Line → Bool
+is_empty [] = true
+is_empty (line ∷ lines) = false
+
+-- a line of these words, behind the lines of this script, begins a block: no command stands before it
+abbrev pub begins_block : Script → List (List ℕ) → Bool
+begins_block script words = is_empty script.lines && is_data words
+
+-- the lines of a block: its data line, lines of which none is `.end`, and a line `.end`
+pub record IsBlock (part : List (List ℕ)) (block : Data) : Type 0 where
+  pub first : List ℕ
+  pub body : List (List ℕ)
+  pub last : List ℕ
+  pub all : part ≡ first ∷ (body ++ last ∷ [])
+  pub data_line : is_data (line_words first) ≡ true
+  pub name : data_name (line_words first) ≡ Ok block.name
+  pub inner : All (λ line. is_block_end line ≡ false) body
+  pub end : is_block_end last ≡ true
+  pub bytes : block.bytes ≡ with_ends body
+
+-- any other line that counts
+pub record IsOther (before : List (List ℕ)) (script : Script) (line : List ℕ) : Type 0 where
+  pub counts_too : counts line ≡ true
+  pub no_workers : sets_workers before (line_words line) ≡ false
+  pub no_block : begins_block script (line_words line) ≡ false
+
+-- The lines are those of a script. A line that is passed over changes nothing.
+pub data IsScriptText : List (List ℕ) → Script → Type 0 where
+  head : (line : List ℕ) → is_head (line_words line) ≡ true → IsScriptText (line ∷ []) (record { workers = 0; blocks = []; lines = [] })
+  passed : (before : List (List ℕ)) (script : Script) (line : List ℕ) → IsScriptText before script → counts line ≡ false → IsScriptText (before ++ line ∷ []) script
+  workers : (before : List (List ℕ)) (script : Script) (line : List ℕ) (number : ℕ)
+      → IsScriptText before script → sets_workers before (line_words line) ≡ true → workers_in (line_words line) ≡ Ok (Some number)
+      → IsScriptText (before ++ line ∷ []) (record { workers = number; blocks = script.blocks; lines = script.lines })
+  block : (before : List (List ℕ)) (script : Script) (part : List (List ℕ)) (block : Data)
+      → IsScriptText before script → is_empty script.lines ≡ true → IsBlock part block → block_named script.blocks block.name ≡ None
+      → IsScriptText (before ++ part) (record { workers = script.workers; blocks = script.blocks ++ block ∷ []; lines = script.lines })
+  command : (before : List (List ℕ)) (script : Script) (line : List ℕ) (command : Line)
+      → IsScriptText before script → IsOther before script line → command_of script.blocks (length script.lines) (length before + 1) (line_text line) ≡ Ok command
+      → IsScriptText (before ++ line ∷ []) (record { workers = script.workers; blocks = script.blocks; lines = script.lines ++ command ∷ [] })
+
+-- The lines are no script's, and the first breach is this fault at the line of this number, counted from 1: the lines before
+-- it are those of a script, and the line, with those after it, does not go on.
+pub data IsFirstBreach : List (List ℕ) → ℕ → ScriptFault → Type 0 where
+  nothing : IsFirstBreach [] 1 NoHead
+  no_head : (line : List ℕ) (rest : List (List ℕ)) → is_head (line_words line) ≡ false → IsFirstBreach (line ∷ rest) 1 NoHead
+  bad_workers : (before : List (List ℕ)) (script : Script) (line : List ℕ) (rest : List (List ℕ)) (fault : ScriptFault)
+      → IsScriptText before script → sets_workers before (line_words line) ≡ true → workers_in (line_words line) ≡ Err fault
+      → IsFirstBreach (before ++ line ∷ rest) (length before + 1) fault
+  bad_block : (before : List (List ℕ)) (script : Script) (line : List ℕ) (rest : List (List ℕ)) (fault : ScriptFault)
+      → IsScriptText before script → begins_block script (line_words line) ≡ true → block_in script.blocks (line_words line) rest ≡ Err fault
+      → IsFirstBreach (before ++ line ∷ rest) (length before + 1) fault
+  bad_command : (before : List (List ℕ)) (script : Script) (line : List ℕ) (rest : List (List ℕ)) (fault : ScriptFault)
+      → IsScriptText before script → IsOther before script line → command_of script.blocks (length script.lines) (length before + 1) (line_text line) ≡ Err fault
+      → IsFirstBreach (before ++ line ∷ rest) (length before + 1) fault

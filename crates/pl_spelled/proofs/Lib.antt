@@ -1,0 +1,10 @@
+pub mod Splitting
+pub mod Numbers
+pub mod Words
+pub mod Commands
+pub mod Values
+pub mod Replies
+pub mod Calls
+pub mod Steps
+pub mod Entries
+pub mod Histories

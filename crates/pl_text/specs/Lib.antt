@@ -1,6 +1,0 @@
-pub mod Outcomes
-pub mod Lines
-pub mod Forms
-pub mod Orders
-pub mod Script
-pub mod Reading

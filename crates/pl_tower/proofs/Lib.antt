@@ -1,0 +1,4 @@
+pub mod SetLemmas
+pub mod OrderLemmas
+pub mod HeightLemmas
+pub mod LawLemmas

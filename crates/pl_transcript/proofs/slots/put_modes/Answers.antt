@@ -1,0 +1,22 @@
+use Rattle.std.proofs.Common.{rules, refl, ◌∙◌, ◌+◌, ◌-◌}
+use Rattle.pl_transcript.specs.Replies.{slot_word}
+use Rattle.pl_transcript.proofs.Flow.{grew_whole, writes_all, stop_after, stop_before}
+use Rattle.pl_transcript.proofs.Spaced.{slot_words, slots_more, slots_at, slots_all}
+use Rattle.pl_transcript.proofs.slots.put_modes.Goals as goal
+
+pub returns-in_err-put_present-clause-written : goal.returns-in_err-put_present-clause-written
+returns-in_err-put_present-clause-written g c = (
+  search rules,
+  stop_after _ _ _ _ _ _ _ _ c.loop-n.invariant.put
+      (stop_before _ _ _ _ (slot_words (slot_word g.T.Technology.meaning c.args.started c.args.finished) c.args.present (c.loop-n.n + 1) (99 - c.loop-n.n)) _ (rw c.of.ensures at c.in_err-put_present.ensures.written.1) refl)
+      (slots_at (slot_word g.T.Technology.meaning c.args.started c.args.finished) c.args.present c.loop-n.n c.loop-n-test.true),
+)
+
+pub loop-n-preserved : goal.loop-n-preserved
+loop-n-preserved g c = record {
+  put = grew_whole _ _ _ _ _ _ _ _ _ c.loop-n.invariant.put (rw c.of.ensures at c.in_ok-put_present.ensures.written.0) (slots_more (slot_word g.T.Technology.meaning c.args.started c.args.finished) c.args.present c.loop-n.n);
+  kept = c.in_ok-put_present.ensures.faults.1 ∙ c.loop-n.invariant.kept;
+}
+
+pub returns-clause-written : goal.returns-clause-written
+returns-clause-written g c = writes_all _ _ _ _ _ _ c.loop-n.invariant.put (slots_all (slot_word g.T.Technology.meaning c.args.started c.args.finished) c.args.present c.loop-n.n c.loop-n-test.false c.loop-n.auto.n-end)
