@@ -1,5 +1,5 @@
 -- What the top call answers.
-use Rattle.std.proofs.Common.{◌≡◌, ◌<◌, ◌≤◌, ℕ, Bool, List, [], ◌∷◌, ◌++◌, length, map, get_or, refl, ap, sym, subst, ◌∙◌, arith, ◌≢◌, Option, Some, None, Result, Ok, Err, inl, inr, String, IsTrue, ◌↔◌}
+use Rattle.std.proofs.Common.{◌≡◌, ◌<◌, ◌≤◌, ℕ, Bool, List, [], ◌∷◌, ◌++◌, length, map, get_or, refl, ap, sym, subst, ◌∙◌, arith, ◌≢◌, Option, Some, None, Ok, Err, inl, inr, String, IsTrue, ◌↔◌}
 use Rattle.std.specs.Prelude.{string_bytes, IfSome}
 use Rattle.std.specs.Global.{Global}
 use Rattle.std.specs.Str.{bytes_eq}
@@ -16,7 +16,6 @@ use Rattle.pl_script.specs.Reading.{Refuses}
 use Rattle.pl_script.specs.Script.{Script, Breach, script_of}
 use Rattle.pl_plater.specs.declared.status.TopFault.TheVariants.{Script as OfScript}
 use Rattle.pl_plater.specs.declared.status.Status.{Status}
-use Rattle.pl_plater.specs.declared.status.Status.TheVariants as Status
 use Rattle.pl_plater.specs.Status.{IsBeforeWriting, IsAfterReading, refusal_status, stop_status}
 use Rattle.pl_session.specs.Complete.{IsComplete, runs_of}
 use Rattle.pl_thin.specs.Thin.{thin_meaning}

@@ -1,11 +1,11 @@
 -- What the command `run` promises of its input and its output.
-use Rattle.std.specs.Prelude.{◌≡◌, ◌<◌, ◌≤◌, ◌^◌, ℕ, List, length, Option, Result, Ok, Err, ⊤, ◌⊎◌}
+use Rattle.std.specs.Prelude.{◌≡◌, ◌<◌, ◌≤◌, ◌^◌, ℕ, List, length, Option, Ok, Err, ⊤, ◌⊎◌}
 use Rattle.std.specs.Io.KnownBytes.{Appends}
 use Rattle.pl_ports.specs.Causes.{AppendsFront}
 use Rattle.pl_edit.specs.declared.edit.Edit.{Edit}
 use Rattle.pl_edit.specs.declared.reply.EditReply.{EditReply}
 use Rattle.pl_script.specs.declared.fault.ScriptFault.{ScriptFault}
-use Rattle.pl_script.specs.Script.{Script, Breach}
+use Rattle.pl_script.specs.Script.{Script}
 use Rattle.pl_plater.specs.declared.status.TopFault.TheVariants.{Script as OfScript}
 use Rattle.pl_plater.specs.declared.status.Status.{Status}
 use Rattle.pl_plater.specs.declared.status.Status.TheVariants.{Done, Refused, NoMemory}

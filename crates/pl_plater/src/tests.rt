@@ -129,12 +129,11 @@ fn scripts_give_their_transcripts(rt: HostRuntime) -> Result<(), Fail> {
         } else {
             Text::copy_of(alloc, row.script)?
         };
+        let name = row.name;
         let mut sink = SteadySink::new(alloc);
-        assert!(rt;
-            run(&rt, alloc, script, &mut sink)? == Status::Done,
-            "{row.name}"
-        );
-        assert!(rt; sink.held() == row.transcript, "{row.name}");
+        let status = run(&rt, alloc, script, &mut sink)?;
+        assert!(rt; status == Status::Done, "{name}");
+        assert!(rt; sink.held() == row.transcript, "{name}");
     }
     Ok(())
 }
