@@ -19,7 +19,7 @@ use Rattle.pl_script.specs.Outcomes.{mapped}
 use Rattle.pl_script.specs.Lines.{after_word}
 use Rattle.pl_script.specs.Forms.{is_name, is_whole, up_to, whole_of, from_one, session_of, byte_of, nm_of}
 use Rattle.pl_script.specs.Orders.{Order, one_of, two_of, three_of, four_of, first_of, first_two_of, alone, delete_in, copy_in, move_in, drop_in, turn_in, set_in, override_in, unset_in, block_named, block_of, load_words, reload_words, ini_in, after_calls, after_words, order_in, order_of, verb_of}
-use Rattle.pl_script.specs.Kept.{IsInLine, IsWord, IsShort, IsSession, IsOrder, HasBlock}
+use Rattle.pl_script.specs.Kept.{IsInLine, IsWord, IsShort, IsPlace, IsSession, IsOrder, HasBlock}
 use Rattle.pl_script.proofs.Apart.{found_named}
 use Rattle.pl_script.proofs.Keeping.{some_then, some_map, some_or, some_where, some_fact, ok_of_some, ok_mapped, ok_where, after_word_in_line, trimmed_in_line}
 
@@ -29,6 +29,10 @@ up_to_most most (Some n) = some_where (λ m. m ≤ most) (nat_le n most) (Some n
 
 pub whole_up_to : (most : ℕ) (word : List ℕ) → IfSome (whole_of most word) (λ n. n ≤ most)
 whole_up_to most word = some_where (λ m. m ≤ most) (is_whole word) (up_to most (written word)) (λ e. up_to_most most (written word))
+
+-- the place of a word
+place_in : (word : List ℕ) (p : ℕ) → byte_of word ≡ Some p → IsPlace p
+place_in word p e = some_fact IsPlace _ p e (whole_up_to 255 word)
 
 from_one_range : (o : Option ℕ) → IfSome o (λ n. n ≤ 16) → IfSome (from_one o) IsSession
 from_one_range None h = tt
@@ -79,27 +83,27 @@ module _ (blocks : List Data) where
   alone_keeps order (word ∷ words) h = tt
 
   delete_keeps : (words : List (List ℕ)) → IfOk (ok_or (delete_in words) BadLine) Keeps
-  delete_keeps words = ok_of_some Keeps _ BadLine (some_then Keeps (one_of words) _ (λ place e. some_map Keeps (byte_of place) _ (λ p e. (tt, tt))))
+  delete_keeps words = ok_of_some Keeps _ BadLine (some_then Keeps (one_of words) _ (λ place e. some_map Keeps (byte_of place) _ (λ p is_p. (place_in place p is_p, tt))))
 
   copy_keeps : (words : List (List ℕ)) → IfOk (ok_or (copy_in words) BadLine) Keeps
   copy_keeps words =
       ok_of_some Keeps _ BadLine
-      (some_then Keeps (three_of words) _ (λ w e. some_then Keeps (byte_of w.0) _ (λ p e. some_then Keeps (nm_of w.1) _ (λ x is_x. some_map Keeps (nm_of w.2) _ (λ y is_y.
-      ((some_fact IsShort _ x is_x (length_short w.1), some_fact IsShort _ y is_y (length_short w.2)), tt))))))
+      (some_then Keeps (three_of words) _ (λ w e. some_then Keeps (byte_of w.0) _ (λ p is_p. some_then Keeps (nm_of w.1) _ (λ x is_x. some_map Keeps (nm_of w.2) _ (λ y is_y.
+      ((place_in w.0 p is_p, some_fact IsShort _ x is_x (length_short w.1), some_fact IsShort _ y is_y (length_short w.2)), tt))))))
 
   move_keeps : (words : List (List ℕ)) → IfOk (ok_or (move_in words) BadLine) Keeps
   move_keeps words =
       ok_of_some Keeps _ BadLine
-      (some_then Keeps (four_of words) _ (λ w e. some_then Keeps (byte_of w.0) _ (λ p e. some_then Keeps (byte_of w.1) _ (λ i e. some_then Keeps (nm_of w.2) _ (λ x is_x. some_map Keeps (nm_of w.3) _ (λ y is_y.
-      ((some_fact IsShort _ x is_x (length_short w.2), some_fact IsShort _ y is_y (length_short w.3)), tt)))))))
+      (some_then Keeps (four_of words) _ (λ w e. some_then Keeps (byte_of w.0) _ (λ p is_p. some_then Keeps (byte_of w.1) _ (λ i is_i. some_then Keeps (nm_of w.2) _ (λ x is_x. some_map Keeps (nm_of w.3) _ (λ y is_y.
+      ((place_in w.0 p is_p, place_in w.1 i is_i, some_fact IsShort _ x is_x (length_short w.2), some_fact IsShort _ y is_y (length_short w.3)), tt)))))))
 
   drop_keeps : (words : List (List ℕ)) → IfOk (ok_or (drop_in words) BadLine) Keeps
-  drop_keeps words = ok_of_some Keeps _ BadLine (some_then Keeps (two_of words) _ (λ w e. some_then Keeps (byte_of w.0) _ (λ p e. some_map Keeps (byte_of w.1) _ (λ i e. (tt, tt)))))
+  drop_keeps words = ok_of_some Keeps _ BadLine (some_then Keeps (two_of words) _ (λ w e. some_then Keeps (byte_of w.0) _ (λ p is_p. some_map Keeps (byte_of w.1) _ (λ i is_i. ((place_in w.0 p is_p, place_in w.1 i is_i), tt)))))
 
   turn_keeps : (words : List (List ℕ)) → IfOk (ok_or (turn_in words) BadLine) Keeps
   turn_keeps words =
       ok_of_some Keeps _ BadLine
-      (some_then Keeps (two_of words) _ (λ w e. some_then Keeps (byte_of w.0) _ (λ p e. some_map Keeps (whole_of 3 w.1) _ (λ q is_q. (some_fact (λ n. n ≤ 3) _ q is_q (whole_up_to 3 w.1), tt)))))
+      (some_then Keeps (two_of words) _ (λ w e. some_then Keeps (byte_of w.0) _ (λ p is_p. some_map Keeps (whole_of 3 w.1) _ (λ q is_q. ((place_in w.0 p is_p, some_fact (λ n. n ≤ 3) _ q is_q (whole_up_to 3 w.1)), tt)))))
 
   set_keeps : (words : List (List ℕ)) (text : List ℕ) → All IsWord words → IsInLine text → IfOk (ok_or (set_in words text) BadLine) Keeps
   set_keeps words text h line =
@@ -109,12 +113,12 @@ module _ (blocks : List Data) where
   override_keeps : (words : List (List ℕ)) (text : List ℕ) → All IsWord words → IsInLine text → IfOk (ok_or (override_in words text) BadLine) Keeps
   override_keeps words text h line =
       ok_of_some Keeps _ BadLine
-      (some_then Keeps (first_two_of words) _ (λ w is_w. some_map Keeps (byte_of w.0) _ (λ p e.
-      ((some_fact (λ v. IsWord v.1) _ w is_w (second_word_of words h), trimmed_in_line (after_word (after_word text)) (after_word_in_line (after_word text) (after_word_in_line text line))), tt))))
+      (some_then Keeps (first_two_of words) _ (λ w is_w. some_map Keeps (byte_of w.0) _ (λ p is_p.
+      ((place_in w.0 p is_p, some_fact (λ v. IsWord v.1) _ w is_w (second_word_of words h), trimmed_in_line (after_word (after_word text)) (after_word_in_line (after_word text) (after_word_in_line text line))), tt))))
 
   unset_keeps : (words : List (List ℕ)) → All IsWord words → IfOk (ok_or (unset_in words) BadLine) Keeps
   unset_keeps words h =
-      ok_of_some Keeps _ BadLine (some_then Keeps (two_of words) _ (λ w is_w. some_map Keeps (byte_of w.0) _ (λ p e. (some_fact (λ v. IsWord v.1) _ w is_w (last_of_two words h), tt))))
+      ok_of_some Keeps _ BadLine (some_then Keeps (two_of words) _ (λ w is_w. some_map Keeps (byte_of w.0) _ (λ p is_p. ((place_in w.0 p is_p, some_fact (λ v. IsWord v.1) _ w is_w (last_of_two words h)), tt))))
 
   abbrev pub IsOneOf : Data → Type 0
   IsOneOf block = block_named blocks block.name ≡ Some block
@@ -131,7 +135,7 @@ module _ (blocks : List Data) where
 
   reload_keeps : (words : Option (List ℕ × List ℕ)) → IfOk (reload_words blocks words) Keeps
   reload_keeps None = tt
-  reload_keeps (Some w) = some_or Keeps (byte_of w.0) _ BadLine (λ p e. block_keeps w.1 (λ block. command.Edit (edit.Reload p block)) (λ block h. (tt, h)))
+  reload_keeps (Some w) = some_or Keeps (byte_of w.0) _ BadLine (λ p is_p. block_keeps w.1 (λ block. command.Edit (edit.Reload p block)) (λ block h. (place_in w.0 p is_p, h)))
 
   ini_keeps : (words : List (List ℕ)) → IfOk (ini_in blocks words) Keeps
   ini_keeps words = some_or Keeps (one_of words) _ BadLine (λ name e. block_keeps name (λ block. command.Edit (edit.Ini block)) (λ block h. (tt, h)))

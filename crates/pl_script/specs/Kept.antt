@@ -28,16 +28,23 @@ pub record IsWord (word : List ℕ) : Type 0 where
 abbrev pub IsShort : Nm → Type 0
 IsShort nm = Within 1000000000 nm.0
 
+-- a place on the plate, or an instance at a place
+abbrev pub IsPlace : ℕ → Type 0
+IsPlace n = n ≤ 255
+
 -- an edit's words are of their forms and in their ranges
 abbrev pub IsEdit : Edit → Type 0
 IsEdit (edit.Load name block) = is_name name ≡ true
-IsEdit (edit.Copy place x y) = IsShort x × IsShort y
-IsEdit (edit.Move place instance x y) = IsShort x × IsShort y
-IsEdit (edit.Turn place quarter) = quarter ≤ 3
+IsEdit (edit.Reload place block) = IsPlace place
+IsEdit (edit.Delete place) = IsPlace place
+IsEdit (edit.Copy place x y) = IsPlace place × IsShort x × IsShort y
+IsEdit (edit.Move place instance x y) = IsPlace place × IsPlace instance × IsShort x × IsShort y
+IsEdit (edit.Drop place instance) = IsPlace place × IsPlace instance
+IsEdit (edit.Turn place quarter) = IsPlace place × (quarter ≤ 3)
 IsEdit (edit.Set key value) = IsWord key × IsInLine value
-IsEdit (edit.Override place key value) = IsWord key × IsInLine value
-IsEdit (edit.Unset place key) = IsWord key
-IsEdit _ = Unit {0}
+IsEdit (edit.Override place key value) = IsPlace place × IsWord key × IsInLine value
+IsEdit (edit.Unset place key) = IsPlace place × IsWord key
+IsEdit (edit.Ini block) = Unit {0}
 
 -- a session, from 1 to 16
 abbrev pub IsSession : ℕ → Type 0

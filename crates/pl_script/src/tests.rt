@@ -37,7 +37,7 @@ fn faults_are_told_by_their_names(rt: HostRuntime) -> Result<(), Fail> {
 
 #[test]
 fn first_breaches_are_named_at_their_lines(rt: HostRuntime) -> Result<(), Fail> {
-    let rows: [(&[u8], u32, ScriptFault); 37] = [
+    let rows: [(&[u8], u32, ScriptFault); 38] = [
         (b"", 1, ScriptFault::NoHead),
         (b"\nplater 1\n", 1, ScriptFault::NoHead),
         (b"#\nplater 1\n", 1, ScriptFault::NoHead),

@@ -8,3 +8,6 @@ pub mod Calls
 pub mod Steps
 pub mod Entries
 pub mod Histories
+pub mod Runs
+pub mod ScriptLines
+pub mod OneScript

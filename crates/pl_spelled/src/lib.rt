@@ -3,4 +3,4 @@
 
 mod spelled;
 
-pub use spelled::transcripts_tell_histories;
+pub use spelled::{a_script_and_a_transcript_tell_the_history, transcripts_tell_histories};
