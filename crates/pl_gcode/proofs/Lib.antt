@@ -1,1 +1,4 @@
+pub mod Heights
+pub mod PathTexts
 pub mod WorkedBox
+pub mod Written

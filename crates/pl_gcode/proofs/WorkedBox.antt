@@ -42,6 +42,7 @@ print = record {
   places = 0 ∷ [];
   tool = λ _. 0;
   instances = λ _. origin ∷ [];
+  layers = λ _. 2;
   layer_at = λ _ i. Some i;
   layer_height = λ _ _. record { 0 = pos 200000 };
   loops = λ _ _. [];

@@ -21,17 +21,24 @@ ends_line (b ∷ c ∷ cs) = ends_line (c ∷ cs)
 abbrev pub own_text : List ℕ → List ℕ
 own_text text = text ++ (if ends_line text then [] else 10 ∷ [])
 
-abbrev pub head_text : Settings → List ℕ
-head_text s =
+-- the remark, the units, and the first layer's temperatures
+abbrev pub opening_lines : Settings → List ℕ
+opening_lines s =
     line_of (codes "; headless plater") ++ line_of (codes "G21") ++ line_of (codes "G90") ++ line_of (codes "M83")
     ++ line_of (codes "M140 S" ++ decimal s.first_layer_bed_temperature)
     ++ line_of (codes "M104 S" ++ decimal s.first_layer_temperature)
     ++ line_of (codes "M190 S" ++ decimal s.first_layer_bed_temperature)
     ++ line_of (codes "M109 S" ++ decimal s.first_layer_temperature)
-    ++ own_text s.start_gcode
+
+abbrev pub head_text : Settings → List ℕ
+head_text s = opening_lines s ++ own_text s.start_gcode
+
+-- nozzle and bed off
+abbrev pub closing_lines : List ℕ
+closing_lines = line_of (codes "M104 S0") ++ line_of (codes "M140 S0")
 
 abbrev pub tail_text : Settings → List ℕ
-tail_text s = own_text s.end_gcode ++ line_of (codes "M104 S0") ++ line_of (codes "M140 S0")
+tail_text s = own_text s.end_gcode ++ closing_lines
 
 abbrev pub perimeter_pace : Settings → Nm → Pace
 perimeter_pace s height = record { speed = s.perimeter_speed; height = height; percent = s.extrusion_multiplier }
@@ -53,9 +60,13 @@ layer_text p place k by =
     ++ flat_map (stroke_path s (ironing_pace s height) by) (p.ironing place k)
     ++ flat_map (stroke_path s (infill_pace s height) by) (p.support place k)
 
+-- the remark before the instance of number i of an object
+abbrev pub name_line : ℕ → ℕ → List ℕ
+name_line place i = line_of (codes ";OBJECT " ++ decimal place ++ codes " " ++ decimal i)
+
 -- the instance of number i of an object at layer k
 abbrev pub instance_text : Print → ℕ → ℕ → ℕ × Corner → List ℕ
-instance_text p place k (i, by) = line_of (codes ";OBJECT " ++ decimal place ++ codes " " ++ decimal i) ++ layer_text p place k by
+instance_text p place k (i, by) = name_line place i ++ layer_text p place k by
 
 abbrev pub object_text : Print → ℕ → Option ℕ → List ℕ
 object_text p place None = []
@@ -72,29 +83,54 @@ abbrev pub gap : Print → ℕ → Nm
 gap p zero = height_at p 0
 gap p (suc i) = record { 0 = (height_at p (suc i)).0 -ℤ (height_at p i).0 }
 
--- skirt and brim at height i
+-- the skirt at height i, and the brim at the first
+abbrev pub skirt_text : Print → ℕ → List ℕ
+skirt_text p i = if nat_lt i p.settings.skirt_height then flat_map (loop_path p.settings (perimeter_pace p.settings (gap p i)) origin) p.skirt else []
+
+abbrev pub brim_text : Print → ℕ → List ℕ
+brim_text p i = if i == 0 then flat_map (loop_path p.settings (perimeter_pace p.settings (gap p i)) origin) p.brim else []
+
 abbrev pub around_text : Print → ℕ → List ℕ
-around_text p i =
-    let s = p.settings in
-    (if nat_lt i s.skirt_height then flat_map (loop_path s (perimeter_pace s (gap p i)) origin) p.skirt else [])
-    ++ (if i == 0 then flat_map (loop_path s (perimeter_pace s (gap p i)) origin) p.brim else [])
+around_text p i = skirt_text p i ++ brim_text p i
+
+-- what the object of a place has at height i, where it has this tool
+abbrev pub place_text : Print → ℕ → ℕ → ℕ → List ℕ
+place_text p i tool place = if p.tool place == tool then object_text p place (p.layer_at place i) else []
 
 -- what the objects of a tool have at height i
 abbrev pub tool_text : Print → ℕ → ℕ → List ℕ
-tool_text p i tool = flat_map (λ place. if p.tool place == tool then object_text p place (p.layer_at place i) else []) p.places
+tool_text p i tool = flat_map (place_text p i tool) p.places
+
+abbrev pub tool_line : ℕ → List ℕ
+tool_line tool = line_of (codes "T" ++ decimal tool)
 
 -- a change to a tool at height i: its number, and the tower's strokes of this change
 abbrev pub change_text : Print → ℕ → ℕ → ℕ → List ℕ
-change_text p i tool change = line_of (codes "T" ++ decimal tool) ++ flat_map (stroke_path p.settings (infill_pace p.settings (gap p i)) origin) (p.block i change)
+change_text p i tool change = tool_line tool ++ flat_map (stroke_path p.settings (infill_pace p.settings (gap p i)) origin) (p.block i change)
+
+abbrev pub change_before : Print → ℕ → ℕ → ℕ → ℕ → List ℕ
+change_before p i current changes tool = if tool == current then [] else change_text p i tool changes
+
+abbrev pub around_first : Print → ℕ → Bool → List ℕ
+around_first p i first = if first then around_text p i else []
+
+-- the number of changes with a tool counted in, where the current one is another
+abbrev pub counted : ℕ → ℕ → ℕ → ℕ
+counted current changes tool = if tool == current then changes else changes + 1
+
+-- one tool of height i, on from the current one and the number of changes before; `first` for the first of them
+abbrev pub turn_text : Print → ℕ → ℕ → ℕ → Bool → ℕ → List ℕ
+turn_text p i current changes first tool = change_before p i current changes tool ++ around_first p i first ++ tool_text p i tool
 
 -- the tools of height i, on from the current one and the number of changes before; `first` before the first of them
 abbrev pub tools_text : Print → ℕ → ℕ → ℕ → Bool → List ℕ → List ℕ
 tools_text p i current changes first [] = []
-tools_text p i current changes first (tool ∷ tools) =
-    (if tool == current then [] else change_text p i tool changes)
-    ++ (if first then around_text p i else [])
-    ++ tool_text p i tool
-    ++ tools_text p i tool (if tool == current then changes else changes + 1) false tools
+tools_text p i current changes first (tool ∷ tools) = turn_text p i current changes first tool ++ tools_text p i tool (counted current changes tool) false tools
+
+-- how many of the tools differ from the one before them
+abbrev pub changes_from : ℕ → List ℕ → ℕ
+changes_from current [] = 0
+changes_from current (tool ∷ tools) = counted current (changes_from tool tools) tool
 
 abbrev pub last_tool : ℕ → List ℕ → ℕ
 last_tool current [] = current
@@ -105,18 +141,22 @@ abbrev pub tool_before : Print → ℕ → ℕ
 tool_before p zero = 0
 tool_before p (suc i) = last_tool (tool_before p i) (p.tools i)
 
+-- how many changes of tools height i has
+abbrev pub changes_at : Print → ℕ → ℕ
+changes_at p i = changes_from (tool_before p i) (p.tools i)
+
 -- from the second height on the temperatures are those of the other layers
 abbrev pub temperatures_text : Settings → ℕ → List ℕ
 temperatures_text s i = if i == 1 then line_of (codes "M140 S" ++ decimal s.bed_temperature) ++ line_of (codes "M104 S" ++ decimal s.temperature) else []
 
+-- the remark of a height, and the move up to it
+abbrev pub rise_text : Settings → Nm → List ℕ
+rise_text s height =
+    let z = fixed (micro height.0) 3 in
+    line_of (codes ";Z " ++ z) ++ line_of (codes "G1 Z" ++ z ++ codes " " ++ feed s.travel_speed)
+
 abbrev pub height_text : Print → ℕ → List ℕ
-height_text p i =
-    let s = p.settings in
-    let z = fixed (micro (height_at p i).0) 3 in
-    line_of (codes ";Z " ++ z)
-    ++ line_of (codes "G1 Z" ++ z ++ codes " " ++ feed s.travel_speed)
-    ++ temperatures_text s i
-    ++ tools_text p i (tool_before p i) 0 true (p.tools i)
+height_text p i = rise_text p.settings (height_at p i) ++ temperatures_text p.settings i ++ tools_text p i (tool_before p i) 0 true (p.tools i)
 
 -- the G-code of a print
 abbrev pub gcode_of : Print → List ℕ

@@ -44,10 +44,14 @@ abbrev pub extrude_along : Settings → Pace → Spot → List Spot → List ℕ
 extrude_along s pace p [] = []
 extrude_along s pace p (q ∷ qs) = extrude s pace p q ++ extrude_along s pace q qs
 
+-- a move to a point, and the feed from there on
+abbrev pub start_lines : Settings → Pace → Spot → List ℕ
+start_lines s pace p = line_of (spot_text p ++ codes " " ++ feed s.travel_speed) ++ line_of (codes "G1 " ++ feed pace.speed)
+
 -- a move to the first point, the feed, and a move with extrusion to each further one
 abbrev pub path : Settings → Pace → List Spot → List ℕ
 path s pace [] = []
-path s pace (p ∷ ps) = line_of (spot_text p ++ codes " " ++ feed s.travel_speed) ++ line_of (codes "G1 " ++ feed pace.speed) ++ extrude_along s pace p ps
+path s pace (p ∷ ps) = start_lines s pace p ++ extrude_along s pace p ps
 
 -- a point moved by whole cells
 abbrev pub shifted : Corner → Spot → Spot
@@ -70,5 +74,8 @@ abbrev pub closed : List Corner → List Corner
 closed [] = []
 closed (p ∷ ps) = (p ∷ ps) ++ p ∷ []
 
+abbrev pub shifted_corner : Corner → Corner → Spot
+shifted_corner by p = shifted by (spot_of p)
+
 abbrev pub loop_path : Settings → Pace → Corner → List Corner → List ℕ
-loop_path s pace by ps = path s pace (map (λ p. shifted by (spot_of p)) (closed ps))
+loop_path s pace by ps = path s pace (map (shifted_corner by) (closed ps))

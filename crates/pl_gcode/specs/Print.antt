@@ -36,6 +36,8 @@ pub record Print : Type 0 where
   pub tool : ℕ → ℕ
   -- the bed cell of each instance of a place, in order
   pub instances : ℕ → List Corner
+  -- how many layers a place has
+  pub layers : ℕ → ℕ
   -- the layer of a place at height i, where it has one there
   pub layer_at : ℕ → ℕ → Option ℕ
   pub layer_height : ℕ → ℕ → Nm

@@ -1,90 +1,18 @@
 //! The G-code of a print.
 #![tactic(auto)]
 
-ghost use Rattle.std.specs.Prelude.{◌≡◌, ◌<◌, ◌≤◌, ◌*◌, ◌^◌, ◌≤ℤ◌, pos, unsigned_abs};
-ghost use Rattle.pl_gcode.specs.Extrusion.{area_of, extrusion_of};
-
-use pl_units::Nm;
-
-/// The filament that a move takes, in 0.00001 mm, rounded down: `len` from 0 to 4,000,000,000 nm, `height` from 1 to
-/// 1,000,000 nm, `diameter` from 500,000 to 5,000,000 nm, `percent` from 0 to 200.
-pub fn extrusion(len: Nm, height: Nm, diameter: Nm, percent: u16) -> i64
-    requires len_low { pos 0 ≤ℤ len.0 }
-    requires len_high { len.0 ≤ℤ pos 4000000000 }
-    requires height_low { pos 1 ≤ℤ height.0 }
-    requires height_high { height.0 ≤ℤ pos 1000000 }
-    requires diameter_low { pos 500000 ≤ℤ diameter.0 }
-    requires diameter_high { diameter.0 ≤ℤ pos 5000000 }
-    requires percent { percent ≤ 200 }
-    ensures { result ≡ pos (extrusion_of (unsigned_abs len.0) (unsigned_abs height.0) (unsigned_abs diameter.0) percent) }
-{
-    extruded(
-        len.0.unsigned_abs(),
-        height.0.unsigned_abs(),
-        diameter.0.unsigned_abs(),
-        percent,
-    ) as i64
-}
-
-// The same over sizes.
-fn extruded(len: u64, height: u64, diameter: u64, percent: u16) -> u64
-    requires len { len ≤ 4000000000 }
-    requires height { height ≤ 1000000 }
-    requires diameter_low { 500000 ≤ diameter }
-    requires diameter_high { diameter ≤ 5000000 }
-    requires percent { percent ≤ 200 }
-    ensures value { result ≡ extrusion_of len height diameter percent }
-    ensures small { result < 2 ^ 63 }
-{
-    let volume = volume(len, height, percent);
-    let area = area(diameter);
-    (volume / (area * 1000)) as u64
-}
-
-// The volume of the track, in percent of a cubic nanometre.
-fn volume(len: u64, height: u64, percent: u16) -> u128
-    requires len { len ≤ 4000000000 }
-    requires height { height ≤ 1000000 }
-    requires percent { percent ≤ 200 }
-    ensures value { result ≡ len * 400000 * height * percent }
-    ensures small { result ≤ 320000000000000000000000 }
-{
-    u128::from(len) * 400_000 * u128::from(height) * u128::from(percent)
-}
-
-// The area of the filament's section.
-fn area(diameter: u64) -> u128
-    requires low { 500000 ≤ diameter }
-    requires high { diameter ≤ 5000000 }
-    ensures value { result ≡ area_of diameter }
-    ensures low { 190000000000 ≤ result }
-{
-    355 * u128::from(diameter) * u128::from(diameter) / 452
-}
-
+mod filament;
+mod gcode;
+mod object;
+mod pace;
+mod parts;
+mod path;
+mod settings;
+mod spot;
 #[cfg(test)]
-mod tests {
-    use super::*;
+mod tests;
+mod tools;
 
-    #[test]
-    fn tracks_have_their_filament(rt: HostRuntime) {
-        let table = [
-            (800_000, 200_000, 100, 2660),
-            (800_000, 200_000, 15, 399),
-            (800_000, 200_000, 0, 0),
-            (800_000, 10_000, 100, 133),
-        ];
-        for (len, height, percent, amount) in &table {
-            let wanted = *amount;
-            if 0 <= *len
-                && *len <= 4_000_000_000
-                && 1 <= *height
-                && *height <= 1_000_000
-                && *percent <= 200
-            {
-                let made = extrusion(Nm(*len), Nm(*height), Nm(1_750_000), *percent);
-                assert_eq!(rt; made, wanted, "{len} by {height} at {percent}");
-            }
-        }
-    }
-}
+pub use filament::extrusion;
+pub use gcode::{put_head, put_height, put_tail};
+pub use parts::Parts;

@@ -1,10 +1,10 @@
 -- What the whole G-code comes to for objects at 0 0.
-use Rattle.std.proofs.Common.{◌≡◌, ◌≢◌, ℕ, zero, suc, ◌+◌, ◌≤◌, ℤ, pos, ◌+ℤ◌, ◌*ℤ◌, Bool, true, false, cond, nat_lt, List, [], ◌∷◌, ◌++◌, length, take, drop, Option, Some, None, refl, sym, ap, ◌∙◌, append_assoc, arith}
+use Rattle.std.proofs.Common.{◌≡◌, ◌≢◌, ℕ, zero, suc, ◌+◌, ℤ, pos, ◌+ℤ◌, ◌*ℤ◌, Bool, true, false, cond, nat_lt, List, [], ◌∷◌, ◌++◌, length, Option, Some, None, refl, sym, ap, ◌∙◌, append_assoc, arith}
 use Rattle.std.specs.Prelude.{codes, ◌==◌, filter, is_some, if◌then◌else◌}
 use Rattle.std.specs.Option.{option_map}
 use Rattle.std.specs.Fmt.{decimal, digits}
 use Rattle.std.specs.List.{flat_map, concat, range_with_len}
-use Rattle.std.proofs.lemmas.List.{append-nil, take_all}
+use Rattle.std.proofs.lemmas.List.{append-nil}
 use Rattle.std.proofs.lemmas.Int.{ints}
 use Rattle.std.proofs.lemmas.Bool.Decides.{nat_tests}
 use Rattle.pl_units.specs.Decimal.{fixed}
@@ -15,10 +15,10 @@ use Rattle.pl_grid.specs.Planes.{Cells}
 use Rattle.pl_layers.specs.Heights.{layer_height_of}
 use Rattle.pl_gcode.specs.Print.{Settings}
 use Rattle.pl_gcode.specs.Paths.{Spot, Pace, line_of, feed, path, shifted, start_of, end_of, stroke_path}
-use Rattle.pl_gcode.specs.Gcode.{origin, head_text, tail_text, height_text, height_at, object_text, tool_before, tools_text, temperatures_text, infill_pace}
+use Rattle.pl_gcode.specs.Gcode.{origin, head_text, tail_text, height_text, height_at, name_line, object_text, tool_before, tools_text, temperatures_text, rise_text, infill_pace}
 use Rattle.pl_thin.specs.declared.output.Sliced.{Sliced}
 use Rattle.pl_thin.specs.Layers.{fixed_heights}
-use Rattle.pl_thin.specs.Print.{fixed_settings, part_at, plane_in, highest, solid_strokes, print_of, gcode_of_parts, rise_line, rise_text, object_line, layer_paths, cells_text, stroke_amount}
+use Rattle.pl_thin.specs.Print.{fixed_settings, part_at, plane_in, highest, solid_strokes, print_of, gcode_of_parts, layer_paths, cells_text, stroke_amount}
 
 pub spot_at_origin : (p : Spot) → shifted origin p ≡ p
 spot_at_origin p =
@@ -57,10 +57,10 @@ tools_thin : (parts : List (Option Sliced)) (i : ℕ) → tools_text (print_of p
 tools_thin parts i = ap (λ c. tools_text (print_of parts) i c 0 true (0 ∷ [])) (no_tool_before parts i) ∙ plain (objects_text parts i) (nat_lt i 1) (i == 0)
 
 -- a height is the rise to it, and its objects
-height_thin : (parts : List (Option Sliced)) (i : ℕ) (top : Nm) → height_at (print_of parts) i ≡ top → height_text (print_of parts) i ≡ rise_text top i ++ objects_text parts i
+height_thin : (parts : List (Option Sliced)) (i : ℕ) (top : Nm) → height_at (print_of parts) i ≡ top → height_text (print_of parts) i ≡ (rise_text fixed_settings top ++ temperatures_text fixed_settings i) ++ objects_text parts i
 height_thin parts i top is =
-    ap (λ (z : Nm). ((line_of (codes ";Z " ++ fixed (micro z.0) 3) ++ line_of (codes "G1 Z" ++ fixed (micro z.0) 3 ++ codes " " ++ feed 130)) ++ temperatures_text fixed_settings i) ++ tools_text (print_of parts) i (tool_before (print_of parts) i) 0 true (0 ∷ [])) is
-    ∙ ap (λ tools. rise_text top i ++ tools) (tools_thin parts i)
+    ap (λ (z : Nm). (rise_text fixed_settings z ++ temperatures_text fixed_settings i) ++ tools_text (print_of parts) i (tool_before (print_of parts) i) 0 true (0 ∷ [])) is
+    ∙ ap (λ tools. (rise_text fixed_settings top ++ temperatures_text fixed_settings i) ++ tools) (tools_thin parts i)
 
 in_order : (line strokes : List ℕ) → (line ++ ((strokes ++ []) ++ [])) ++ [] ≡ line ++ strokes
 in_order line strokes = append-nil _ ∙ ap (λ e. line ++ e) (append-nil (strokes ++ []) ∙ append-nil strokes)
@@ -69,11 +69,11 @@ abbrev paths : Nm → ℕ → Option Cells → List ℕ
 paths height k cells = flat_map (stroke_path fixed_settings (infill_pace fixed_settings height) origin) (solid_strokes k cells)
 
 -- an object's text at a layer that is there, with its cells
-with_cells : (parts : List (Option Sliced)) (i place : ℕ) (cells : Cells) → plane_in (part_at parts place) i ≡ Some cells → object_text (print_of parts) place (Some i) ≡ object_line place ++ layer_paths i cells
+with_cells : (parts : List (Option Sliced)) (i place : ℕ) (cells : Cells) → plane_in (part_at parts place) i ≡ Some cells → object_text (print_of parts) place (Some i) ≡ name_line place 0 ++ layer_paths i cells
 with_cells parts i place cells e =
-    in_order (object_line place) (paths (layer_height_of fixed_heights i) i (plane_in (part_at parts place) i))
-    ∙ ap (λ c. object_line place ++ paths (layer_height_of fixed_heights i) i c) e
-    ∙ ap (λ h. object_line place ++ paths h i (Some cells)) (same_height i)
+    in_order (name_line place 0) (paths (layer_height_of fixed_heights i) i (plane_in (part_at parts place) i))
+    ∙ ap (λ c. name_line place 0 ++ paths (layer_height_of fixed_heights i) i c) e
+    ∙ ap (λ h. name_line place 0 ++ paths h i (Some cells)) (same_height i)
 
 by_layer : (parts : List (Option Sliced)) (i place : ℕ) (cells : Option Cells) → plane_in (part_at parts place) i ≡ cells → object_text (print_of parts) place (option_map (λ _. i) cells) ≡ cells_text place i cells
 by_layer parts i place None e = refl
@@ -96,8 +96,8 @@ object_end = refl
 object_pieces : (a p sp z n : List ℕ) → concat (a ∷ p ∷ ((sp ++ z) ++ n) ∷ []) ≡ (((a ++ p) ++ sp) ++ z) ++ n
 object_pieces a p sp z n = simp (append_assoc, append-nil)
 
-pub object_line_is : (place : ℕ) → concat (codes ";OBJECT " ∷ decimal place ∷ codes " 0\n" ∷ []) ≡ object_line place
-object_line_is place =
+pub name_line_is : (place : ℕ) → concat (codes ";OBJECT " ∷ decimal place ∷ codes " 0\n" ∷ []) ≡ name_line place 0
+name_line_is place =
     ap (λ end. concat (codes ";OBJECT " ∷ decimal place ∷ end ∷ [])) object_end ∙ object_pieces (codes ";OBJECT ") (decimal place) (codes " ") (decimal 0) (10 ∷ [])
 
 feed_is : codes " F7800\n" ≡ (codes " " ++ feed 130) ++ 10 ∷ []
@@ -127,8 +127,8 @@ rise_pieces : (a z g sp f n : List ℕ) → concat (a ∷ z ∷ (n ++ g) ∷ z �
 rise_pieces a z g sp f n = simp (append_assoc, append-nil)
 
 -- the pieces of a rise
-pub rise_line_is : (top : Nm) → concat (codes ";Z " ∷ fixed (micro top.0) 3 ∷ codes "\nG1 Z" ∷ fixed (micro top.0) 3 ∷ codes " F7800\n" ∷ []) ≡ rise_line top
-rise_line_is top =
+pub rise_text_is : (top : Nm) → concat (codes ";Z " ∷ fixed (micro top.0) 3 ∷ codes "\nG1 Z" ∷ fixed (micro top.0) 3 ∷ codes " F7800\n" ∷ []) ≡ rise_text fixed_settings top
+rise_text_is top =
     ap (λ fast. concat (codes ";Z " ∷ fixed (micro top.0) 3 ∷ codes "\nG1 Z" ∷ fixed (micro top.0) 3 ∷ fast ∷ [])) feed_is
     ∙ rise_pieces (codes ";Z ") (fixed (micro top.0) 3) (codes "G1 Z") (codes " ") (feed 130) (10 ∷ [])
 
@@ -150,14 +150,14 @@ one_path = stroke_path fixed_settings (infill_pace fixed_settings fixed_heights.
 
 -- what was appended for a height, part by part
 pub height_put : (parts : List (Option Sliced)) (i : ℕ) (top : Nm) (start risen warmed out : List ℕ) (place : ℕ) → height_at (print_of parts) i ≡ top
-    → risen ≡ start ++ rise_line top → warmed ≡ risen ++ temperatures_text fixed_settings i
+    → risen ≡ start ++ rise_text fixed_settings top → warmed ≡ risen ++ temperatures_text fixed_settings i
     → out ≡ warmed ++ flat_map (λ place. object_text (print_of parts) place ((print_of parts).layer_at place i)) (filter (λ place. is_some (part_at parts place)) (range_with_len 0 place)) → place ≡ 16
     → out ≡ start ++ height_text (print_of parts) i
 height_put parts i top start risen warmed out place is r w o all =
     let temperatures = temperatures_text fixed_settings i in
     o ∙ ap (λ n. warmed ++ flat_map (λ place. object_text (print_of parts) place ((print_of parts).layer_at place i)) (filter (λ place. is_some (part_at parts place)) (range_with_len 0 n))) all
-    ∙ ap (λ l. l ++ objects_text parts i) (w ∙ ap (λ l. l ++ temperatures) r ∙ append_assoc start (rise_line top) temperatures)
-    ∙ append_assoc start (rise_text top i) (objects_text parts i)
+    ∙ ap (λ l. l ++ objects_text parts i) (w ∙ ap (λ l. l ++ temperatures) r ∙ append_assoc start (rise_text fixed_settings top) temperatures)
+    ∙ append_assoc start (rise_text fixed_settings top ++ temperatures) (objects_text parts i)
     ∙ ap (λ l. start ++ l) (sym (height_thin parts i top is))
 
 head_is : codes "; headless plater\nG21\nG90\nM83\nM140 S60\nM104 S215\nM190 S60\nM109 S215\n" ≡ head_text fixed_settings

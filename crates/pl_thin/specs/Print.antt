@@ -1,18 +1,15 @@
 -- What is printed of the layers of the sixteen places, with fixed settings.
-use Rattle.std.specs.Prelude.{ℕ, pos, ◌%◌, ◌==◌, nat_le, if◌then◌else◌, List, [], ◌∷◌, ◌++◌, length, slice_get, slice_index_or, filter, is_some, Option, Some, None, codes}
-use Rattle.std.specs.Fmt.{decimal}
+use Rattle.std.specs.Prelude.{ℕ, pos, ◌%◌, ◌==◌, nat_le, if◌then◌else◌, List, [], ◌∷◌, ◌++◌, length, slice_get, slice_index_or, filter, is_some, Option, Some, None}
 use Rattle.std.specs.List.{range_with_len, flat_map}
 use Rattle.std.specs.Option.{option_map, option_map_or, option_and_then}
 use Rattle.pl_units.specs.declared.Nm.{Nm}
-use Rattle.pl_units.specs.Decimal.{fixed}
-use Rattle.pl_units.specs.Micro.{micro}
 use Rattle.pl_grid.specs.declared.stroke.Stroke.{Stroke}
 use Rattle.pl_grid.specs.Planes.{Cells}
 use Rattle.pl_grid.specs.Strokes.{axis_of, strokes_of}
 use Rattle.pl_layers.specs.Heights.{layer_height_of}
 use Rattle.pl_gcode.specs.Print.{Settings, Print}
-use Rattle.pl_gcode.specs.Paths.{line_of, feed, amount, start_of, end_of, stroke_path}
-use Rattle.pl_gcode.specs.Gcode.{origin, gcode_of, temperatures_text, infill_pace}
+use Rattle.pl_gcode.specs.Paths.{amount, start_of, end_of, stroke_path}
+use Rattle.pl_gcode.specs.Gcode.{origin, gcode_of, name_line, infill_pace}
 use Rattle.pl_thin.specs.declared.output.Sliced.{Sliced}
 use Rattle.pl_thin.specs.Layers.{fixed_heights}
 
@@ -49,6 +46,10 @@ abbrev pub highest : List (Option Sliced) → List Nm
 highest [] = []
 highest (part ∷ parts) = the_longer (tops_in part) (highest parts)
 
+-- how many layers there are
+abbrev pub layers_in : Option Sliced → ℕ
+layers_in part = option_map_or (λ (sliced : Sliced). length sliced.planes) part 0
+
 -- the cells of layer k, where there is one
 abbrev pub plane_in : Option Sliced → ℕ → Option Cells
 plane_in part k = option_and_then (λ (sliced : Sliced). slice_get sliced.planes k) part
@@ -70,6 +71,7 @@ print_of parts = record {
   places = filter (λ place. is_some (part_at parts place)) (range_with_len 0 16);
   tool = λ _. 0;
   instances = λ _. origin ∷ [];
+  layers = λ place. layers_in (part_at parts place);
   layer_at = λ place i. option_map (λ _. i) (plane_in (part_at parts place) i);
   layer_height = λ _ k. layer_height_of fixed_heights k;
   loops = λ _ _. [];
@@ -82,23 +84,9 @@ print_of parts = record {
 unfoldable pub gcode_of_parts : List (Option Sliced) → List ℕ
 gcode_of_parts parts = gcode_of (print_of parts)
 
--- the move up to a top
-abbrev pub rise_line : Nm → List ℕ
-rise_line top =
-    let z = fixed (micro top.0) 3 in
-    line_of (codes ";Z " ++ z) ++ line_of (codes "G1 Z" ++ z ++ codes " " ++ feed 130)
-
--- what height i begins with, whose top this is
-abbrev pub rise_text : Nm → ℕ → List ℕ
-rise_text top i = rise_line top ++ temperatures_text fixed_settings i
-
 -- the filament of a stroke, in 0.00001 mm
 abbrev pub stroke_amount : Stroke → ℕ
 stroke_amount k = amount fixed_settings (infill_pace fixed_settings fixed_heights.height) (start_of k) (end_of k)
-
--- the line that begins an object
-abbrev pub object_line : ℕ → List ℕ
-object_line place = line_of (codes ";OBJECT " ++ decimal place ++ codes " " ++ decimal 0)
 
 -- the paths of the cells of layer k
 abbrev pub layer_paths : ℕ → Cells → List ℕ
@@ -106,5 +94,5 @@ layer_paths k cells = flat_map (stroke_path fixed_settings (infill_pace fixed_se
 
 -- what an object has at a height, where there are cells of layer k
 abbrev pub cells_text : ℕ → ℕ → Option Cells → List ℕ
-cells_text place k (Some cells) = object_line place ++ layer_paths k cells
+cells_text place k (Some cells) = name_line place 0 ++ layer_paths k cells
 cells_text place k None = []

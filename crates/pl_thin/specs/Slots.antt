@@ -1,5 +1,5 @@
 -- The slots of a plate: slot 6p for the layers of the object at place p, and slot 99 for the G-code of the plate.
-use Rattle.std.specs.Prelude.{ℕ, ◌*◌, ◌/◌, ◌%◌, ◌==◌, nat_lt, Bool, not, ◌&&◌, ◌||◌, is_some, List, [], ◌++◌, if◌then◌else◌, codes}
+use Rattle.std.specs.Prelude.{ℕ, ◌/◌, ◌%◌, ◌==◌, nat_lt, Bool, not, ◌&&◌, ◌||◌, is_some, List, [], ◌++◌, if◌then◌else◌, codes}
 use Rattle.std.specs.Fmt.{decimal}
 use Rattle.pl_model.specs.Contents.{Contents}
 use Rattle.pl_model.specs.Places.{place_in}

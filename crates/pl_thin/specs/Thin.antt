@@ -6,7 +6,6 @@ use Rattle.pl_edit.specs.declared.reply.EditReply.{EditReply}
 use Rattle.pl_model.specs.Contents.{Contents, blank}
 use Rattle.pl_model.specs.Outcomes.{edited, edit_reply}
 use Rattle.pl_model.specs.Same.{same_plates}
-use Rattle.pl_stl.specs.declared.mesh.Facet.{Facet}
 use Rattle.pl_thin.specs.declared.output.Sliced.{Sliced}
 use Rattle.pl_thin.specs.declared.output.ThinOutput.{ThinOutput}
 use Rattle.pl_thin.specs.declared.output.ThinOutput.TheVariants.{Slices, Gcode}

@@ -1,5 +1,5 @@
 -- The laws of the kind of print of this stage.
-use Rattle.std.proofs.Common.{◌≡◌, ◌≢◌, ◌<◌, ℕ, Bool, true, false, List, [], Option, Some, None, refl, ap, sym, subst, ◌∙◌, arith}
+use Rattle.std.proofs.Common.{◌≡◌, ◌≢◌, ◌<◌, ℕ, Bool, true, false, [], Option, Some, None, refl, ap, sym, ◌∙◌, arith}
 use Rattle.std.specs.Prelude.{◌==◌, not, ◌&&◌, ◌||◌}
 use Rattle.std.proofs.lemmas.Bool.Decides.{nat_tests}
 use Rattle.pl_tech.specs.Technology.{IsLawful}
@@ -8,7 +8,7 @@ use Rattle.pl_model.specs.Same.{same_plates}
 use Rattle.pl_model.proofs.SamePlates.{same_plates-is}
 use Rattle.pl_thin.specs.declared.output.Sliced.{Sliced}
 use Rattle.pl_thin.specs.Problem.{plate_problem}
-use Rattle.pl_thin.specs.Slots.{has_layers, is_present, needs_slot, is_touched}
+use Rattle.pl_thin.specs.Slots.{is_present, needs_slot, is_touched}
 use Rattle.pl_thin.specs.Thin.{layers_value, slot_value, output_bytes, thin_meaning}
 use Rattle.pl_thin.specs.NameLaws.{names_short, names_solid, names_there, names_apart}
 

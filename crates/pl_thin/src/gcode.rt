@@ -3,10 +3,10 @@ ghost use Rattle.std.specs.Prelude.{◌≡◌, ◌++◌, ◌<◌, ◌%◌, ◌^�
 ghost use Rattle.pl_units.specs.Decimal.{fixed};
 ghost use Rattle.pl_grid.specs.NearStrokes.{IsNearStroke};
 ghost use Rattle.pl_grid.specs.Strokes.{axis_of};
-ghost use Rattle.pl_gcode.specs.Gcode.{height_at, height_text, infill_pace, origin, temperatures_text};
-ghost use Rattle.pl_gcode.specs.Paths.{line_of, stroke_path};
+ghost use Rattle.pl_gcode.specs.Gcode.{height_at, height_text, infill_pace, name_line, origin, rise_text, temperatures_text};
+ghost use Rattle.pl_gcode.specs.Paths.{stroke_path};
 ghost use Rattle.pl_thin.specs.Layers.{fixed_heights};
-ghost use Rattle.pl_thin.specs.Print.{fixed_settings, tops_in, the_longer, highest, print_of, gcode_of_parts, rise_line, object_line, layer_paths, cells_text, part_at, plane_in, stroke_amount};
+ghost use Rattle.pl_thin.specs.Print.{fixed_settings, tops_in, the_longer, highest, print_of, gcode_of_parts, layer_paths, cells_text, part_at, plane_in, stroke_amount};
 
 use crate::output::{Parts, Sliced};
 use crate::slicing::heights;
@@ -107,7 +107,7 @@ fn put_cells(
     plane: &Plane,
     i: usize,
 ) -> Result<(), NoMemory>
-    ensures { OnOk result (out.new ≡ out.old ++ (object_line place ++ layer_paths i plane.now)) }
+    ensures { OnOk result (out.new ≡ out.old ++ (name_line place 0 ++ layer_paths i plane.now)) }
 {
     put_name(out, place)?;
     put_layer(alloc, out, plane, i)
@@ -115,7 +115,7 @@ fn put_cells(
 
 // Appends the line that begins an object.
 fn put_name(out: &mut Text, place: u8) -> Result<(), NoMemory>
-    ensures { OnOk result (out.new ≡ out.old ++ object_line place) }
+    ensures { OnOk result (out.new ≡ out.old ++ name_line place 0) }
 {
     let place = Digits::whole(u64::from(place));
     append_pieces(out, &[b";OBJECT ", place.bytes(), b" 0\n"])
@@ -144,7 +144,7 @@ fn along(i: usize) -> Axis
 
 // Appends the move up to a top.
 fn put_rise(out: &mut Text, top: &Nm) -> Result<(), NoMemory>
-    ensures { OnOk result (out.new ≡ out.old ++ rise_line top.now) }
+    ensures { OnOk result (out.new ≡ out.old ++ rise_text fixed_settings top.now) }
 {
     let z = Digits::fixed(to_micro(*top), 3);
     append_pieces(out, &[b";Z ", z.bytes(), b"\nG1 Z", z.bytes(), b" F7800\n"])

@@ -1,4 +1,3 @@
-use Rattle.std.proofs.Common.{◌≡◌, arith}
 use Rattle.pl_thin.specs.Layers.{part_of}
 use Rattle.pl_thin.proofs.Slicings.{one_more}
 use Rattle.pl_thin.proofs.slots.kept_parts.Goals as goal

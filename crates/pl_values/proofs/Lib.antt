@@ -1,0 +1,13 @@
+pub mod Members
+pub mod Ascends
+pub mod OptionRanges
+pub mod LayerLemmas
+pub mod Places
+pub mod Tops
+pub mod ToolSets
+pub mod HeightTools
+pub mod Prints
+pub mod Grounds
+pub mod WorkedBox
+pub mod WorkedRanges
+pub mod Rows
