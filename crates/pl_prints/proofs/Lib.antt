@@ -1,0 +1,6 @@
+mod FootLemmas
+mod OrderLemmas
+mod PlaceLemmas
+mod RoomLemmas
+mod ToolLemmas
+mod TopLemmas

@@ -1,0 +1,4 @@
+pub mod Layers
+pub mod Rounds
+pub mod Heights
+pub mod Footprints

@@ -1,0 +1,5 @@
+pub mod Each
+pub mod Beds
+pub mod Boxes
+pub mod Whole
+pub mod Computed

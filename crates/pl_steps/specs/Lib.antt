@@ -1,0 +1,4 @@
+pub mod Options
+pub mod Layers
+pub mod Corners
+pub mod Parts
