@@ -4,7 +4,7 @@ ghost use Rattle.std.specs.Option.{option_or};
 ghost use Rattle.std.specs.FinMap as map;
 ghost use Rattle.pl_keys.specs.declared.key.Key.{Key};
 ghost use Rattle.pl_keys.specs.Values.{IsValueOf};
-ghost use Rattle.pl_options.specs.KeyMap.{IsDefaults};
+ghost use Rattle.pl_options.specs.KeyMap.{IsConfig, IsDefaults};
 
 use crate::settings::IniSet;
 use crate::values::Values;
@@ -56,6 +56,7 @@ impl Config {
     pub fn get(&self, key: Key) -> &Value
         ensures value { map.get self.now key ≡ Some result.now }
         ensures fits { IsValueOf key result.now }
+        ensures kept { IsConfig self.now }
     {
         self.values.get(key).unwrap()
     }

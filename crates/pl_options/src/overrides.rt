@@ -5,6 +5,7 @@ ghost use Rattle.std.specs.FinMap as map;
 ghost use Rattle.pl_keys.specs.declared.key.Key.{Key};
 ghost use Rattle.pl_keys.specs.Keys.{is_object_key};
 ghost use Rattle.pl_keys.specs.Values.{IsValueOf};
+ghost use Rattle.pl_options.specs.KeyMap.{IsOverrides};
 
 use crate::values::Values;
 use pl_keys::{Key, Value};
@@ -46,6 +47,7 @@ impl Overrides {
         ensures value { option_copied result ≡ map.get self.now key }
         ensures fits { IfSome result (λ value. IsValueOf key value.now) }
         ensures object { IsSome result → IsTrue (is_object_key key) }
+        ensures kept { IsOverrides self.now }
     {
         self.values.get(key)
     }
