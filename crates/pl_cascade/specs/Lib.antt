@@ -1,0 +1,4 @@
+pub mod Slots
+pub mod Cascade
+pub mod Direct
+pub mod Touched
