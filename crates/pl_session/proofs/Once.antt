@@ -22,14 +22,14 @@ use Rattle.pl_machine.specs.History.{replay, IsRunFrom}
 use Rattle.pl_machine.specs.Startable.{IsLeast}
 use Rattle.pl_machine.specs.Tickets.{closes}
 use Rattle.pl_machine.proofs.Runs.{run_split}
+use Rattle.pl_machine.proofs.Replies.{one_reply}
 use Rattle.pl_session.specs.Complete.{is_session, command_of, is_bye, commands_by, byes_by, byes_due, IfStart, IsDue, TakesPart, IsComplete}
 use Rattle.pl_session.specs.Alone.{first_alone}
 use Rattle.pl_session.proofs.Entries.{commands_append, byes_append}
 use Rattle.pl_session.proofs.Alone.{by_first}
-use Rattle.pl_session.proofs.Replies.{one_reply}
 use Rattle.pl_session.proofs.Settled.{IsSettled, settled_run, export_waits, still_away}
 
--- of two slots one is below the other, or they are one
+-- two least slots are one
 same_least : {P E R O : Type 0} (m : Meaning P E R O) (st : Machine P) (s t : ℕ) → IsLeast m st s → IsLeast m st t → s ≡ t
 same_least m st s t a b = elim (cases_lt s t) [
   | inl below ↦ absurd (b.least s below a.can)
@@ -54,7 +54,7 @@ module _ {P : Type 0} (st : Machine P) where
   not_pending p none is = let f : None ≡ Some p = sym none ∙ is in cc
 
 module _ {E : Type 0} where
-  -- of session 1 alone it is session 1 that takes part
+  -- where session 1 is alone, it is session 1 that takes part
   is_first : (commands : List (Command E)) (a : Actor) → TakesPart (first_alone commands) 0 a → a ≡ Session 1
   is_first commands (Worker k) part = absurd (omega (arith, part.0, part.1))
   is_first commands (Session i) part = elim (eqb_tells i 1) [
@@ -69,6 +69,7 @@ module _ {E : Type 0} where
       subst (λ l. slice_get l (length before) ≡ Some c) is
       (slice_get_read (before ++ c ∷ after) (length (before ++ c ∷ after)) (length before) c refl (grind (arith, long)) (sym (get_or-append_seam before c after c)))
 
+  -- there is none after the last
   none_next : (before whole : List (Command E)) (c : Command E) → before ≡ whole → slice_get whole (length before) ≡ Some c → ⊥
   none_next before whole c is here =
       let within = slice_get_within whole (length before) c here in
@@ -76,6 +77,7 @@ module _ {E : Type 0} where
       omega (arith, within, same)
 
 module _ {T P E R O J B : Type 0} where
+  -- the first call's command is the first command
   first_command : (w : What T P E R O J B) (c : Command E) (es : List (Entry T P E R O J B)) → command_of w ≡ Some c → commands_by 1 (by_first w ∷ es) ≡ c ∷ commands_by 1 es
   first_command w c es is = ap (λ o. cons_option o (commands_by 1 es)) is
 
@@ -179,7 +181,7 @@ module _ {T P E R O J B : Type 0} where
       one_next h (Call c r) (Call d s) settled a b =
           let f : Some c ≡ Some d = sym (a.asked c refl) ∙ b.asked d refl in
           let g : c ≡ d = cc in
-          ap (λ x. Call x r) g ∙ ap (Call d) (one_reply m (replay m h) settled.modes_long d r s (subst (λ x. Replies m (replay m h) x r) g a.may.1) b.may.1)
+          ap (λ x. Call x r) g ∙ ap (Call d) (one_reply m (replay m h) d r s settled.modes_long (subst (λ x. Replies m (replay m h) x r) g a.may.1) b.may.1)
       one_next h (Call c r) (Start slot epoch) settled a b = absurd (not_both h c r slot epoch settled a b)
       one_next h (Call c r) Bye settled a b = absurd (none_next (commands_by 1 h) commands c (b.left refl).0 (a.asked c refl))
       one_next h (Start slot epoch) (Call c r) settled a b = absurd (not_both h c r slot epoch settled b a)
@@ -220,6 +222,7 @@ module _ {T P E R O J B : Type 0} where
       settled_before : (h es : List (Entry T P E R O J B)) → Whole (h ++ es) → IsSettled m (replay m h)
       settled_before h es whole = settled_run m laws h (run_split m (blank m) h es whole.legal).0
 
+      -- what follows the same entries is the same
       same_rest : (h one other : List (Entry T P E R O J B)) → Whole (h ++ one) → Whole (h ++ other) → one ≡ other
       same_rest h [] [] a b = refl
       same_rest h [] (f ∷ fs) a b = absurd (no_more h f.what (subst Whole (append-nil h) a) (entry_goes_on h fs f b))

@@ -18,16 +18,17 @@ use Rattle.pl_machine.specs.Machine.{Machine, IsSound, IsReady, CanStart, Replie
 use Rattle.pl_machine.specs.History.{replay_from, IsRunFrom}
 use Rattle.pl_machine.proofs.Sound.{sound-blank, sound-started, sound-finished, sound-fallen}
 use Rattle.pl_machine.proofs.Applying.{apply_ready, cancel_ready}
+use Rattle.pl_machine.proofs.Excluding.{whole}
 use Rattle.pl_session.proofs.Free.{copied, command_keeps}
 
 module _ {P E R O : Type 0} (m : Meaning P E R O) where
+  -- what every run keeps: a place for each slot and each session, and what is started or done is present, and all that it needs is Done
   pub record IsSettled (st : Machine P) : Type 0 where
     pub modes_long : length st.modes ≡ 100
     pub left_long : length st.left ≡ 16
-    -- what is started or done is present, and all that it needs is Done
     pub held_ready : (k : ℕ) → is_invalid (mode_of st k) ≡ false → IsReady m st k
 
-  -- the modes and plates of a state, at which nobody has made a call or has anything pending
+  -- the state with its plates and modes, in which nobody has made a call or has anything pending
   abbrev quiet : Machine P → Machine P
   quiet st = record { edited = st.edited; applied = st.applied; modes = st.modes; epochs = replicate 100 0; calls = replicate 16 0; left = st.left; pending = replicate 24 None }
 
@@ -101,18 +102,12 @@ module _ {P E R O : Type 0} (m : Meaning P E R O) where
       -- an export has no reply where a slot may be started
       pub export_waits : (st : Machine P) (slot : ℕ) (r : Reply T P E R O J B) → IsSettled st → CanStart m st slot → Replies m st Export r → ⊥
       export_waits st slot (Refused p) settled can replies = let f : None ≡ Some p = sym can.no_problem ∙ replies in cc
-      export_waits st slot (Gcode o) settled can replies = elim (cases_lt slot 99) [
-        | inl below ↦
-            let done = (settled.held_ready 99 (ap is_invalid replies.1)).needed slot (laws.last_needs st.applied slot can.ready.present below) in
-            let f : Invalid ≡ Done = sym can.invalid ∙ done in cc
-        | inr far ↦
-            let low = laws.present_below st.applied slot can.ready.present in
-            let last : slot ≡ 99 = omega (arith, far, low) in
-            let f : Invalid ≡ Done = sym can.invalid ∙ ap (mode_of st) last ∙ replies.1 in cc
-      ]
+      export_waits st slot (Gcode o) settled can replies =
+          let done : mode_of st slot ≡ Done = whole m laws (quiet st) (sound_quiet st settled) replies.1 slot can.ready.present in
+          let f : Invalid ≡ Done = sym can.invalid ∙ done in cc
       export_waits st slot r settled can replies = replies
 
-  -- a session that has left is still away after a bye
+  -- who has left is still away after a bye
   still_left : (left : List Bool) (j : ℕ) → get_or left 0 false ≡ true → get_or (set left j true) 0 false ≡ true
   still_left left j is = elim (eqb_tells 0 j) [
     | inl same ↦ elim (cases_lt j (length left)) [
