@@ -15,7 +15,7 @@ use Rattle.pl_machine.specs.Machine.{Machine, IsSound, is_invalid, mode_of, call
 
 module _ {P E R O : Type 0} (m : Meaning P E R O) (laws : IsLawful m) where
   -- where slot 99 is Done, so is each present slot
-  whole : (st : Machine P) → IsSound m st → mode_of st 99 ≡ Done → (k : ℕ) → m.present st.applied k ≡ true → mode_of st k ≡ Done
+  pub whole : (st : Machine P) → IsSound m st → mode_of st 99 ≡ Done → (k : ℕ) → m.present st.applied k ≡ true → mode_of st k ≡ Done
   whole st sound last k here = elim (cases_lt k 99) [
     | inl below ↦ (sound.held_ready 99 (ap is_invalid last)).needed k (laws.last_needs st.applied k here below)
     | inr not_below ↦ let low = laws.present_below st.applied k here in let e : k ≡ 99 = omega arith in ap (mode_of st) e ∙ last

@@ -5,3 +5,4 @@ pub mod Applying
 pub mod Looking
 pub mod Excluding
 pub mod Standing
+pub mod Replies

@@ -2,7 +2,7 @@
 use Rattle.std.proofs.Common.{◌≡◌, ℕ, ◌+◌, ◌&&◌, ◌⊎◌, inl, inr, cond, List, [], ◌∷◌, ◌++◌, refl, ap, subst, ◌∙◌}
 use Rattle.std.specs.List.{filter, filter_map}
 use Rattle.std.proofs.lemmas.List.Elements.{filter-append, filter_map-append}
-use Rattle.std.proofs.lemmas.List.Sums.{sum_by_push}
+use Rattle.std.proofs.lemmas.List.Sums.{sum_by-append, sum_by_push}
 use Rattle.pl_machine.specs.declared.entry.Entry.{Entry}
 use Rattle.pl_session.specs.Complete.{is_session, command_of, is_bye, is_start, commands_by, byes_by, runs_of, EachEntry}
 
@@ -26,11 +26,16 @@ module _ {A : Type 0} where
       ]
 
 module _ {T P E R O J B : Type 0} where
+  pub commands_append : (i : ℕ) (h es : List (Entry T P E R O J B)) → commands_by i (h ++ es) ≡ commands_by i h ++ commands_by i es
+  commands_append i h es =
+      ap (filter_map (λ e. command_of e.what)) (filter-append (λ e. is_session i e.actor) h es)
+      ∙ filter_map-append (λ e. command_of e.what) (filter (λ e. is_session i e.actor) h) (filter (λ e. is_session i e.actor) es)
+
   pub commands_more : (i : ℕ) (h : List (Entry T P E R O J B)) (e : Entry T P E R O J B) → commands_by i (h ++ e ∷ []) ≡ commands_by i h ++ commands_by i (e ∷ [])
-  commands_more i h e =
-      let own = filter-append (λ e. is_session i e.actor) h (e ∷ []) in
-      ap (filter_map (λ e. command_of e.what)) own
-      ∙ filter_map-append (λ e. command_of e.what) (filter (λ e. is_session i e.actor) h) (filter (λ e. is_session i e.actor) (e ∷ []))
+  commands_more i h e = commands_append i h (e ∷ [])
+
+  pub byes_append : (i : ℕ) (h es : List (Entry T P E R O J B)) → byes_by i (h ++ es) ≡ byes_by i h + byes_by i es
+  byes_append i h es = sum_by-append (λ e. cond (is_session i e.actor && is_bye e.what) 1 0) h es
 
   pub byes_more : (i : ℕ) (h : List (Entry T P E R O J B)) (e : Entry T P E R O J B) → byes_by i (h ++ e ∷ []) ≡ byes_by i h + cond (is_session i e.actor && is_bye e.what) 1 0
   byes_more i h e = sum_by_push (λ e. cond (is_session i e.actor && is_bye e.what) 1 0) h e

@@ -20,7 +20,7 @@ use Rattle.pl_machine.proofs.Sound.{mode_after, get_or-set_default}
 use Rattle.pl_session.specs.UnderWay.{undone_in, IsFree}
 
 -- a place of copies of the default
-copied : {A : Type 0} (n i : ℕ) (d : A) → get_or (replicate n d) i d ≡ d
+pub copied : {A : Type 0} (n i : ℕ) (d : A) → get_or (replicate n d) i d ≡ d
 copied n i d = elim (cases_lt i n) [
   | inl within ↦ get_or-replicate n i d d within
   | inr out ↦ get_or_past (replicate n d) i d (rw length-replicate out)
@@ -111,12 +111,12 @@ module _ {P E R O : Type 0} (m : Meaning P E R O) where
   }
 
   -- what every command leaves
-  record CommandKeeps (st st' : Machine P) : Type 0 where
-    modes_long : length st.modes ≡ 100 → length st'.modes ≡ 100
-    pending : st'.pending ≡ st.pending
-    left : st'.left ≡ st.left
-    calls : st'.calls ≡ st.calls
-    unstarted : (k : ℕ) → is_started (mode_of st k) ≡ false → is_started (mode_of st' k) ≡ false
+  pub record CommandKeeps (st st' : Machine P) : Type 0 where
+    pub modes_long : length st.modes ≡ 100 → length st'.modes ≡ 100
+    pub pending : st'.pending ≡ st.pending
+    pub left : st'.left ≡ st.left
+    pub calls : st'.calls ≡ st.calls
+    pub unstarted : (k : ℕ) → is_started (mode_of st k) ≡ false → is_started (mode_of st' k) ≡ false
 
   edited_keeps : (st : Machine P) (edited : P) → CommandKeeps st (record st { edited = edited })
   edited_keeps st edited = record { modes_long = λ long. long; pending = refl; left = refl; calls = refl; unstarted = λ k unstarted. unstarted }
@@ -124,7 +124,7 @@ module _ {P E R O : Type 0} (m : Meaning P E R O) where
   fallen_keeps : (st : Machine P) (applied : P) (hit : ℕ → Bool) → CommandKeeps st (record st { applied = applied; modes = modes_after st hit; epochs = epochs_after st hit })
   fallen_keeps st applied hit = record { modes_long = λ long. length-each_slot _; pending = refl; left = refl; calls = refl; unstarted = fallen_unstarted st hit }
 
-  command_keeps : (st : Machine P) (c : Command E) → CommandKeeps st (after_command m st c)
+  pub command_keeps : (st : Machine P) (c : Command E) → CommandKeeps st (after_command m st c)
   command_keeps st (Edit e) = edited_keeps st (m.edited st.edited e)
   command_keeps st Apply = fallen_keeps st st.edited (is_hit m st)
   command_keeps st Cancel = fallen_keeps st st.applied (λ k. is_started (mode_of st k))

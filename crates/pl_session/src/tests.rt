@@ -4,7 +4,7 @@ ghost use Rattle.std.specs.Thread.{IsSync};
 ghost use Rattle.pl_session.specs.Alone.{first_alone, WaitsForNobody};
 ghost use Rattle.pl_session.specs.Complete.{IsComplete};
 
-use crate::{Ended, run_session};
+use crate::{Ended, one_complete_history, run_session};
 use pl_machine::{Command, Entry, Reply, What};
 use pl_tech::{Technology, Toy, ToyEdit};
 use pl_units::NoMemory;
@@ -83,4 +83,9 @@ fn without_a_command_nothing_happens(rt: HostRuntime) -> Result<(), Fail> {
     assert_eq!(rt; ended.journal.len(), 0);
     assert_eq!(rt; ended.runs, 0);
     Ok(())
+}
+
+#[test]
+fn the_toy_has_one_complete_history(_rt: HostRuntime) {
+    one_complete_history::<Toy>();
 }

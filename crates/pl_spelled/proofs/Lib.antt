@@ -3,7 +3,6 @@ pub mod Numbers
 pub mod Words
 pub mod Commands
 pub mod Values
-pub mod Replies
 pub mod Calls
 pub mod Steps
 pub mod Entries

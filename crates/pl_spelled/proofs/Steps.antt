@@ -16,6 +16,7 @@ use Rattle.pl_machine.specs.declared.entry.Reply.{Reply}
 use Rattle.pl_machine.specs.declared.entry.What.{What}
 use Rattle.pl_machine.specs.declared.entry.What.TheVariants.{Call, Start, Finish, Late, Bye}
 use Rattle.pl_machine.specs.Machine.{Machine, Allows, Replies, epoch_of}
+use Rattle.pl_machine.proofs.Replies.{one_reply, some_same}
 use Rattle.pl_transcript.specs.Words.{spaced}
 use Rattle.pl_transcript.specs.Commands.{command_words}
 use Rattle.pl_transcript.specs.Replies.{reply_words}
@@ -24,7 +25,6 @@ use Rattle.pl_spelled.specs.Script.{IsSpelled}
 use Rattle.pl_spelled.proofs.Splitting.{Lacks, is_end, AreSolid, weaker, next_word}
 use Rattle.pl_spelled.proofs.Words.{literal_solid, no_end, front_words, front_solid}
 use Rattle.pl_spelled.proofs.Commands.{Says, ShareBlocks, first_of, rest_of, verb_of, verb_first}
-use Rattle.pl_spelled.proofs.Replies.{one_reply, some_same}
 use Rattle.pl_spelled.proofs.Calls.{call_told}
 
 says_same : (a b : List ℕ) → a ≡ b → Says (bytes_eq a b)
