@@ -36,7 +36,7 @@ pub record IsClosure (set closed : ℕ → Bool) : Type 0 where
   pub least : (other : ℕ → Bool) → ((slot : ℕ) → set slot ≡ true → other slot ≡ true) → ((slot taken : ℕ) → other slot ≡ true → takes slot taken ≡ true → other taken ≡ true) → (slot : ℕ) → closed slot ≡ true → other slot ≡ true
 
 -- a set and what its members take
-abbrev pub with_taken : (ℕ → Bool) → ℕ → Bool
+unfoldable pub with_taken : (ℕ → Bool) → ℕ → Bool
 with_taken set slot = set slot || list_any (λ member. set member && takes member slot) (range_with_len 0 100)
 
 -- what members take takes no more than one step further, so the closure is there after two steps

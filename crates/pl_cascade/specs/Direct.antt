@@ -27,9 +27,13 @@ differ coded one other = not (same_code (coded.code one) (coded.code other))
 abbrev pub option_touches : (Key → Option Value) → (Key → Option Value) → ℕ → Key → Bool
 option_touches old new step key = touches key step && differ (coded_option value_row.coded) (old key) (new key)
 
--- the object options of an object do
-abbrev pub options_touch : KeyMap → Object → KeyMap → Object → ℕ → Bool
-options_touch config object later changed step = list_any (λ key. is_object_key key && option_touches (value_for config object) (value_for later changed) step key) keys
+-- one of the options that objects may have of their own does
+unfoldable pub options_touch : (Key → Option Value) → (Key → Option Value) → ℕ → Bool
+options_touch old new step = list_any (λ key. is_object_key key && option_touches old new step key) keys
+
+-- one of the others does
+unfoldable pub settings_touch : (Key → Option Value) → (Key → Option Value) → ℕ → Bool
+settings_touch old new step = list_any (λ key. not (is_object_key key) && option_touches old new step key) keys
 
 -- the mesh or its turn differs
 abbrev pub shape_differs : Object → Object → Bool
@@ -41,24 +45,25 @@ instances_differ object changed = differ (coded_list shift_row.coded) object.ins
 -- of a place: a step of its object is directly touched, where the place is filled in both plates; all six are, where it is
 -- filled in one alone
 abbrev pub object_touched : KeyMap → Option Object → KeyMap → Option Object → ℕ → Bool
-object_touched config (Some object) later (Some changed) step = options_touch config object later changed step || ((step == steps.slice) && shape_differs object changed)
+object_touched config (Some object) later (Some changed) step = options_touch (value_for config object) (value_for later changed) step || ((step == steps.slice) && shape_differs object changed)
 object_touched config None later None step = false
 object_touched config _ later _ step = true
 
 -- of a place: a step of the print is directly touched, by an option of its object or by its instances, where the place is filled
 -- in both plates; all four are, where it is filled in one alone
 abbrev pub print_touched : KeyMap → Option Object → KeyMap → Option Object → ℕ → Bool
-print_touched config (Some object) later (Some changed) step = options_touch config object later changed step || instances_differ object changed
+print_touched config (Some object) later (Some changed) step = options_touch (value_for config object) (value_for later changed) step || instances_differ object changed
 print_touched config None later None step = false
 print_touched config _ later _ step = true
 
--- an option of the print that directly touches the step differs
-abbrev pub config_touches : KeyMap → KeyMap → ℕ → Bool
-config_touches config later step = list_any (λ key. not (is_object_key key) && option_touches (get config) (get later) step key) keys
+-- a step of the print is directly touched: by an option of the print, or at one of the sixteen places
+unfoldable pub print_is_direct : Contents → Contents → ℕ → Bool
+print_is_direct old new step =
+    settings_touch (get old.config) (get new.config) step || list_any (λ place. print_touched old.config (place_in old.places place) new.config (place_in new.places place) step) (range_with_len 0 16)
 
 -- a slot is directly touched between two plates
 abbrev pub is_direct : Contents → Contents → ℕ → Bool
 is_direct old new slot =
     if is_object_slot slot
     then object_touched old.config (place_in old.places (place_of slot)) new.config (place_in new.places (place_of slot)) (step_of slot)
-    else config_touches old.config new.config (step_of slot) || list_any (λ place. print_touched old.config (place_in old.places place) new.config (place_in new.places place) (step_of slot)) (range_with_len 0 16)
+    else print_is_direct old new (step_of slot)

@@ -1,6 +1,7 @@
+pub mod FewLemmas
 mod FootLemmas
 mod OrderLemmas
-mod PlaceLemmas
-mod RoomLemmas
-mod ToolLemmas
+pub mod PlaceLemmas
+pub mod RoomLemmas
+pub mod ToolLemmas
 mod TopLemmas

@@ -1,5 +1,5 @@
 -- Numbers that are sorted, and each kept but once, are the ascending ones.
-use Rattle.std.proofs.Common.{◌≡◌, ℤ, ◌<ℤ◌, Bool, true, false, ◌||◌, cond, List, [], ◌∷◌, refl, sym, ◌∙◌, ap, arith}
+use Rattle.std.proofs.Common.{◌≡◌, ℤ, ◌<ℤ◌, ◌+◌, ◌≤◌, Bool, true, false, ◌||◌, cond, List, [], ◌∷◌, length, map, refl, sym, ◌∙◌, ap, arith}
 use Rattle.std.specs.declared.cmp.Ordering.{Ordering}
 use Rattle.std.specs.declared.cmp.Ordering.TheVariants.{Less, Equal, Greater}
 use Rattle.std.specs.Ordering.{int_cmp, int_eq, eq_by_cmp, is_eq, ordering_reverse, MatchOrdering}
@@ -13,7 +13,10 @@ use Rattle.std.proofs.lemmas.Int.{ints}
 use Rattle.std.proofs.lemmas.List.Sorted.{list_any-IsPermutation}
 use Rattle.std.proofs.lemmas.List.Kept.{IsStrictlySortedBy-dedup}
 use Rattle.std.proofs.lemmas.Map.Lookups.{btree_set_from_contains}
+use Rattle.std.proofs.lemmas.List.{length-map}
+use Rattle.pl_units.specs.declared.Nm.{Nm}
 use Rattle.pl_values.specs.Ascending.{put_in_order, ascending}
+use Rattle.pl_prints.specs.Heights.{nm_of}
 use Rattle.pl_prints.proofs.TopLemmas.{is_other, is_same}
 
 or_swap : (a b c : Bool) → (a || (b || c)) ≡ (b || (a || c))
@@ -103,3 +106,18 @@ put_is xs ys zs moved sorted kept =
     ∙ btree_set_from_contains int_cmp_total (record { keys = dedup int_eq ys }) (record { keys = ascending xs }) (IsStrictlySortedBy-dedup int_cmp_total ties ys sorted) (sorted_ascending xs)
     (λ q. any_dedup (is_at (int_cmp q)) ys ∙ sym (list_any-IsPermutation (is_at (int_cmp q)) xs ys moved) ∙ sym (any_ascending (is_at (int_cmp q)) xs))
     same_number
+
+-- ---- how many there are
+
+length_put : (z : ℤ) (ys : List ℤ) → length (put_in_order z ys) ≤ length ys + 1
+length_put z [] = omega arith
+length_put z (y ∷ ys) =
+    elim (int_cmp z y) as (λ o. length (by_order o (z ∷ y ∷ ys) (y ∷ ys) (y ∷ put_in_order z ys)) ≤ length (y ∷ ys) + 1) [ Less ↦ omega arith | Equal ↦ omega arith | Greater ↦ omega (arith, length_put z ys) ]
+
+pub few_ascending : (zs : List ℤ) → length (ascending zs) ≤ length zs
+unfolding ascending
+few_ascending [] = omega arith
+few_ascending (z ∷ zs) = omega (arith, length_put z (ascending zs), few_ascending zs)
+
+pub few_lengths : (numbers ordered seen : List ℤ) (lengths : List Nm) → length numbers ≤ 1600000 → ordered ≡ ascending numbers → seen ≡ ordered → lengths ≡ map nm_of seen → length lengths ≤ 1600000
+few_lengths numbers ordered seen lengths few order same is = omega (arith, few, ap length is ∙ length-map seen nm_of, ap length same, ap length order, few_ascending numbers)

@@ -5,6 +5,7 @@ use Rattle.std.specs.List.{range_with_len, position}
 use Rattle.std.proofs.lemmas.Bool.{false_from_ne_true}
 use Rattle.std.proofs.lemmas.Bool.Decides.{nat_tests, Decides-int_eq}
 use Rattle.std.proofs.lemmas.Int.{ints}
+use Rattle.std.proofs.lemmas.List.{length-append}
 use Rattle.std.proofs.lemmas.List.Sums.{position_or_len_is}
 use Rattle.std.proofs.lemmas.List.FromFn.{length-map-range_with_len, get_or-map-range_with_len, map-range_with_len_more}
 use Rattle.std.proofs.Math.Nat.{mul-le-mul_right}
@@ -76,3 +77,6 @@ tops_more h n first old new top before here more =
     ∙ append_assoc first (map (z_of h) (range_with_len 0 n)) (top ∷ [])
     ∙ ap (λ z. first ++ (map (z_of h) (range_with_len 0 n) ++ z ∷ [])) here
     ∙ ap (λ zs. first ++ zs) (sym (map-range_with_len_more (z_of h) 0 n n (omega arith)))
+
+pub few_more : (h : Heights) (n : ℕ) (first new : List ℤ) → new ≡ first ++ map (z_of h) (range_with_len 0 n) → n ≤ 100000 → length new ≤ length first + 100000
+few_more h n first new is few = omega (arith, few, ap length is ∙ length-append first (map (z_of h) (range_with_len 0 n)), length-map-range_with_len (z_of h) 0 n)

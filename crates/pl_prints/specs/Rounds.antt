@@ -19,12 +19,21 @@ use Rattle.pl_values.specs.PrintValues.{farther}
 abbrev pub length_option : KeyMap → Key → Nm
 length_option config key = length_in (get config key)
 
--- the skirt lies beyond the brim
+-- the skirt lies beyond the brim, so many cells away
+abbrev pub skirt_distance : KeyMap → ℕ
+skirt_distance config = cells_in (farther (length_option config key.SkirtDistance) (length_option config key.BrimWidth))
+
+abbrev pub skirt_count : KeyMap → ℕ
+skirt_count config = whole_in (get config key.Skirts)
+
+abbrev pub brim_width : KeyMap → ℕ
+brim_width config = cells_in (length_option config key.BrimWidth)
+
 abbrev pub skirt_round : KeyMap → Cells → List (List Corner)
-skirt_round config footing = skirt_of footing (cells_in (farther (length_option config key.SkirtDistance) (length_option config key.BrimWidth))) (whole_in (get config key.Skirts))
+skirt_round config footing = skirt_of footing (skirt_distance config) (skirt_count config)
 
 abbrev pub brim_round : KeyMap → Cells → List (List Corner)
-brim_round config footing = brim_of footing (cells_in (length_option config key.BrimWidth))
+brim_round config footing = brim_of footing (brim_width config)
 
 -- the strokes of the wipe tower at a change of tools, where there is a tower
 abbrev pub block_in : KeyMap → ℕ → List Stroke

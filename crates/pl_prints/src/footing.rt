@@ -90,8 +90,9 @@ fn put_first(floor: &mut Plane, layers: &[Plane], x: i32, y: i32)
     }
 }
 
-// The cells of the bed on which footprints stand.
-fn footing(alloc: Global, footprints: &[Footprint]) -> Result<Plane, NoMemory>
+/// The cells of the bed, 625 columns and 525 rows, on which footprints stand. Each of their instances must lie in the bed.
+/// Refused only for want of memory.
+pub fn footing_plane(alloc: Global, footprints: &[Footprint]) -> Result<Plane, NoMemory>
     requires { All (λ f. All (IsPlaced f) f.instances) footprints.now }
     ensures { IfOk result (λ p. p ≡ footing_of footprints.now) }
 {
@@ -121,5 +122,5 @@ pub fn ground_plane(
     ensures { IfOk result (λ p. p ≡ ground_of plate.now) }
 {
     let _config = plate.config();
-    footing(alloc, footprints)
+    footing_plane(alloc, footprints)
 }

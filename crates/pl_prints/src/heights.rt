@@ -1,13 +1,14 @@
 //! The filled places of a plate, and the heights of its print.
-ghost use Rattle.std.specs.Prelude.{◌≡◌, ◌<◌, ◌++◌, IfOk, length, map};
+ghost use Rattle.std.specs.Prelude.{◌≡◌, ◌<◌, ◌≤◌, ◌++◌, IfOk, length, map};
 ghost use Rattle.std.specs.List.{flat_map};
-ghost use Rattle.pl_values.specs.PrintValues.{places_of, objects_of, tops_for, heights_of};
+ghost use Rattle.pl_values.specs.PrintValues.{places_of, heights_of};
 ghost use Rattle.pl_values.specs.Ascending.{ascending};
-ghost use Rattle.pl_prints.specs.Heights.{nm_of, if_filled, of_object};
+ghost use Rattle.pl_prints.specs.Layers.{tops_in};
+ghost use Rattle.pl_prints.specs.Heights.{nm_of, if_filled, heights_in};
 
 use crate::layers::ObjectLayers;
+use crate::used::all_layers;
 use pl_model::{Object, Plate};
-use pl_options::Config;
 use pl_units::{Nm, NoMemory};
 use std::alloc::Global;
 
@@ -36,24 +37,16 @@ fn put_place(filled: &[Option<Object>], place: u8, places: &mut Vec<u8>) -> Resu
 }
 
 // The tops of all layers, object by object.
-fn all_tops(alloc: Global, plate: &Plate) -> Result<Vec<i64>, NoMemory>
-    ensures { IfOk result (λ tops. tops.items ≡ flat_map (tops_for plate.now.config) (objects_of plate.now)) }
+fn all_tops(alloc: Global, objects: &[ObjectLayers]) -> Result<Vec<i64>, NoMemory>
+    requires { length objects.now ≤ 16 }
+    ensures few { IfOk result (λ tops. length tops.items ≤ 1600000) }
+    ensures tops { IfOk result (λ tops. tops.items ≡ flat_map tops_in objects.now) }
 {
     let mut tops = Vec::new(alloc);
-    for place in plate.places() {
-        put_tops(plate.config(), place, &mut tops)?;
+    for object in objects {
+        object.put_tops(&mut tops)?;
     }
     Ok(tops)
-}
-
-// Puts the tops of the layers of what stands at a place behind others.
-fn put_tops(config: &Config, place: &Option<Object>, tops: &mut Vec<i64>) -> Result<(), NoMemory>
-    ensures { IfOk result (λ _. tops.new.items ≡ tops.old.items ++ of_object (tops_for config.now) place.now) }
-{
-    match place {
-        Some(object) => ObjectLayers::of(config, object).put_tops(tops),
-        None => Ok(()),
-    }
 }
 
 // Puts numbers in order, and each but once.
@@ -75,12 +68,24 @@ fn lengths(alloc: Global, numbers: &[i64]) -> Result<Vec<Nm>, NoMemory>
     Ok(lengths)
 }
 
-/// The heights of a print: the tops of all layers of all objects, in nanometres above the plate, ascending and each once.
-/// Refused only for want of memory.
-pub fn tops(alloc: Global, plate: &Plate) -> Result<Vec<Nm>, NoMemory>
-    ensures { IfOk result (λ tops. tops.items ≡ heights_of plate.now) }
+/// The heights of a print by the layers of its objects, at most sixteen: the tops of all layers, in nanometres above the
+/// plate, ascending and each once. There are at most 1,600,000. Refused only for want of memory.
+pub fn heights_of_layers(alloc: Global, objects: &[ObjectLayers]) -> Result<Vec<Nm>, NoMemory>
+    requires { length objects.now ≤ 16 }
+    ensures few { IfOk result (λ tops. length tops.items ≤ 1600000) }
+    ensures tops { IfOk result (λ tops. tops.items ≡ heights_in objects.now) }
 {
-    let mut numbers = all_tops(alloc, plate)?;
+    let mut numbers = all_tops(alloc, objects)?;
     put_in_order(&mut numbers);
     lengths(alloc, &numbers)
+}
+
+/// The heights of a print: the tops of all layers of all objects, in nanometres above the plate, ascending and each once.
+/// There are at most 1,600,000. Refused only for want of memory.
+pub fn tops(alloc: Global, plate: &Plate) -> Result<Vec<Nm>, NoMemory>
+    ensures few { IfOk result (λ tops. length tops.items ≤ 1600000) }
+    ensures tops { IfOk result (λ tops. tops.items ≡ heights_of plate.now) }
+{
+    let objects = all_layers(alloc, plate)?;
+    heights_of_layers(alloc, &objects)
 }

@@ -1,5 +1,5 @@
 //! The layers of an object, by their tops.
-ghost use Rattle.std.specs.Prelude.{◌≡◌, ◌≢◌, ℕ, ◌<◌, ◌≤◌, ◌*◌, ◌++◌, IfOk, IfSome, MatchOption};
+ghost use Rattle.std.specs.Prelude.{◌≡◌, ◌≢◌, ℕ, ◌<◌, ◌≤◌, ◌+◌, ◌*◌, ◌++◌, IfOk, IfSome, MatchOption, length};
 ghost use Rattle.pl_layers.specs.Heights.{AreHeights, z_of};
 ghost use Rattle.pl_values.specs.PrintValues.{layer_with_top};
 ghost use Rattle.pl_prints.specs.Layers.{layers_in, tops_in, layer_in};
@@ -91,7 +91,8 @@ impl ObjectLayers {
 
     // Puts the tops of the layers behind others.
     pub(crate) fn put_tops(&self, tops: &mut Vec<i64>) -> Result<(), NoMemory>
-        ensures { IfOk result (λ _. tops.new.items ≡ tops.old.items ++ tops_in self.now) }
+        ensures few { IfOk result (λ _. length tops.new.items ≤ length tops.old.items + 100000) }
+        ensures tops { IfOk result (λ _. tops.new.items ≡ tops.old.items ++ tops_in self.now) }
     {
         for layer in 0..self.count {
             tops.push(z_of(self.heights, layer).0)?;

@@ -7,14 +7,16 @@ mod heights;
 mod laws;
 pub mod layers;
 mod options;
+mod ranges;
 mod rounds;
 #[cfg(test)]
 mod tests;
 mod used;
 
-pub use footing::{Footprint, ground_plane};
-pub use heights::{places, tops};
+pub use footing::{Footprint, footing_plane, ground_plane};
+pub use heights::{heights_of_layers, places, tops};
 pub use laws::rounds_are_those_of_the_plate;
 pub use layers::{ObjectLayers, layer_with_top};
-pub use rounds::{brim, skirt, tower};
-pub use used::tools;
+pub use ranges::{few_heights, few_layers, in_range};
+pub use rounds::{brim, brim_width, skirt, skirt_count, skirt_distance, tower};
+pub use used::{all_layers, tools, used_at};

@@ -1,5 +1,5 @@
 //! The tools of each height of a print.
-ghost use Rattle.std.specs.Prelude.{◌≡◌, ◌||◌, ℕ, [], ◌∷◌, ◌++◌, IfOk, map};
+ghost use Rattle.std.specs.Prelude.{◌≡◌, ◌≤◌, ◌+◌, ◌||◌, ℕ, [], ◌∷◌, ◌++◌, IfOk, length, map};
 ghost use Rattle.pl_tower.specs.Tools.{has, IsToolSet};
 ghost use Rattle.pl_values.specs.PrintValues.{objects_of, heights_of, tools_of, tool_set_of};
 ghost use Rattle.pl_prints.specs.Layers.{layers_in, is_printed, has_printed};
@@ -12,9 +12,11 @@ use pl_tower::{ToolSet, Tools, tools_of_heights};
 use pl_units::{Nm, NoMemory};
 use std::alloc::Global;
 
-// The layers of each object.
-fn all_layers(alloc: Global, plate: &Plate) -> Result<Vec<ObjectLayers>, NoMemory>
-    ensures { IfOk result (λ layers. layers.items ≡ map (layers_in plate.now.config) (objects_of plate.now)) }
+/// The layers of each object of a plate, in the order of their places. It looks at each facet once. Refused only for want
+/// of memory.
+pub fn all_layers(alloc: Global, plate: &Plate) -> Result<Vec<ObjectLayers>, NoMemory>
+    ensures few { IfOk result (λ layers. length layers.items ≤ 16) }
+    ensures layers { IfOk result (λ layers. layers.items ≡ map (layers_in plate.now.config) (objects_of plate.now)) }
 {
     let mut layers = Vec::new(alloc);
     for place in plate.places() {
@@ -29,7 +31,8 @@ fn put_layers(
     place: &Option<Object>,
     layers: &mut Vec<ObjectLayers>,
 ) -> Result<(), NoMemory>
-    ensures { IfOk result (λ _. layers.new.items ≡ layers.old.items ++ of_object (λ object. layers_in config.now object ∷ []) place.now) }
+    ensures few { IfOk result (λ _. length layers.new.items ≤ length layers.old.items + 1) }
+    ensures layers { IfOk result (λ _. layers.new.items ≡ layers.old.items ++ of_object (λ object. layers_in config.now object ∷ []) place.now) }
 {
     if let Some(object) = place {
         layers.push(ObjectLayers::of(config, object))?;
@@ -49,8 +52,8 @@ fn with_object(set: ToolSet, object: &ObjectLayers, top: &Nm) -> ToolSet
     }
 }
 
-// The tools that are used at a height.
-fn used_at(objects: &[ObjectLayers], top: &Nm) -> ToolSet
+/// The tools that are used at a height: those of the objects of which a layer has this top, in nanometres above the plate.
+pub fn used_at(objects: &[ObjectLayers], top: &Nm) -> ToolSet
     ensures { result ≡ tool_set_of (has_printed objects.now top.now.0) }
 {
     let mut set = ToolSet::empty();

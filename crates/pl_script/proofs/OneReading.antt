@@ -65,10 +65,10 @@ abbrev value : {X E : Type 0} → X → Result X E → X
 value x (Ok y) = y
 value x (Err e) = x
 
-ok_is : {X E : Type 0} (said : Result X E) (x y : X) → said ≡ Ok x → said ≡ Ok y → x ≡ y
+pub ok_is : {X E : Type 0} (said : Result X E) (x y : X) → said ≡ Ok x → said ≡ Ok y → x ≡ y
 ok_is said x y e f = ap (value x) (sym e ∙ f)
 
-named_found : (blocks : List Data) (first : List ℕ) (more : List (List ℕ)) (data_block : Data) (name : List ℕ) → is_data (line_words first) ≡ true → data_name (line_words first) ≡ Ok name → block_named blocks name ≡ None
+pub named_found : (blocks : List Data) (first : List ℕ) (more : List (List ℕ)) (data_block : Data) (name : List ℕ) → is_data (line_words first) ≡ true → data_name (line_words first) ≡ Ok name → block_named blocks name ≡ None
     → ok_or (option_map (λ body. record { name = name; bytes = with_ends body }) (body_of more)) CutData ≡ Ok data_block → Found blocks first more data_block
 named_found blocks first more data_block name starts named new e =
     elim (cases_Bool (nat_lt (position_or_len is_block_end more) (length more))) [

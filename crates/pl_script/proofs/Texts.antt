@@ -86,7 +86,7 @@ starts _ _ (command before script line c h other is) = starts_more before line [
 same_resume : (script : Script) (rest : List (List ℕ)) (a b : Bool) (m n : ℕ) → a ≡ b → m ≡ n → resume a m script rest ≡ resume b n script rest
 same_resume script rest a b m n p q = λ i. resume (p i) (q i) script rest
 
-longer : (before : List (List ℕ)) (line : List ℕ) → length (before ++ line ∷ []) + 1 ≡ (length before + 1) + 1
+pub longer : (before : List (List ℕ)) (line : List ℕ) → length (before ++ line ∷ []) + 1 ≡ (length before + 1) + 1
 longer before line = omega (arith, length-append before (line ∷ []))
 
 apart_words : (words : List (List ℕ)) → is_data words ≡ true → is_workers words ≡ false
@@ -103,7 +103,7 @@ empty_is (c ∷ cs) e = absurd (cc)
 
 -- the block of a part is found behind its data line
 
-body_is : (body : List (List ℕ)) (last : List ℕ) (rest : List (List ℕ)) → All (λ line. is_block_end line ≡ false) body → is_block_end last ≡ true → body_of (body ++ last ∷ rest) ≡ Some body
+pub body_is : (body : List (List ℕ)) (last : List ℕ) (rest : List (List ℕ)) → All (λ line. is_block_end line ≡ false) body → is_block_end last ≡ true → body_of (body ++ last ∷ rest) ≡ Some body
 body_is body last rest inner end =
     let at : position_or_len is_block_end (body ++ last ∷ rest) ≡ length body = first_end body last rest inner end in
     let long : length (body ++ last ∷ rest) ≡ length body + length (last ∷ rest) = length-append body (last ∷ rest) in
@@ -134,7 +134,7 @@ resume_block only number script part data_block is rest bare none new =
     ∙ (λ i. with_workers script.workers (behind (count i) more [] (left i)))
     ∙ ap (λ ls. with_workers script.workers (behind (number + length part) more ls rest)) (sym (empty_is script.lines none))
 
-part_first : (before part : List (List ℕ)) (data_block : Data) (is : IsBlock part data_block) (rest : List (List ℕ)) → (before ++ part) ++ rest ≡ before ++ (is.first ∷ (is.body ++ is.last ∷ rest))
+pub part_first : (before part : List (List ℕ)) (data_block : Data) (is : IsBlock part data_block) (rest : List (List ℕ)) → (before ++ part) ++ rest ≡ before ++ (is.first ∷ (is.body ++ is.last ∷ rest))
 part_first before part data_block is rest =
     append_assoc before part rest
     ∙ ap (λ p. before ++ (p ++ rest)) is.all

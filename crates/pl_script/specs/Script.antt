@@ -77,10 +77,13 @@ data_name words = name_in (two_of words)
 abbrev pub body_of : List (List ℕ) → Option (List (List ℕ))
 body_of lines = option_map (λ n. take n lines) (position is_block_end lines)
 
--- the block of a name whose lines come next, after these blocks
+-- the block of a name whose lines come next
+abbrev pub block_after : List (List ℕ) → List ℕ → Result Data ScriptFault
+block_after lines name = ok_or (option_map (λ body. record { name = name; bytes = with_ends body }) (body_of lines)) CutData
+
+-- the same after these blocks
 abbrev pub named_block : List Data → List (List ℕ) → List ℕ → Result Data ScriptFault
-named_block blocks lines name =
-    if is_some (block_named blocks name) then Err SameData else ok_or (option_map (λ body. record { name = name; bytes = with_ends body }) (body_of lines)) CutData
+named_block blocks lines name = if is_some (block_named blocks name) then Err SameData else block_after lines name
 
 -- the block of a data line's words and of the lines after it
 abbrev pub block_in : List Data → List (List ℕ) → List (List ℕ) → Result Data ScriptFault

@@ -41,8 +41,10 @@ pub enum ScriptFault {
 
 /// Why a line was not read: by its fault, or for want of memory.
 #[derive(Clone, Copy)]
-pub(crate) enum LineStop {
+pub enum LineStop {
+    /// The line's fault.
     Fault(ScriptFault),
+    /// Memory was wanted and not had.
     NoMemory,
 }
 
@@ -73,7 +75,7 @@ impl LineStop {
     ghost use Rattle.pl_script.specs.Reading.{at_line};
 
     /// The refusal at the line of this number.
-    pub(crate) fn at(self, number: u32) -> Refusal<ScriptFault>
+    pub fn at(self, number: u32) -> Refusal<ScriptFault>
         ensures { result ≡ at_line number self }
     {
         match self {

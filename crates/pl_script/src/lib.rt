@@ -15,7 +15,9 @@ mod tests;
 mod verb;
 mod words;
 
-pub use fault::ScriptFault;
+pub use fault::{LineStop, ScriptFault};
 pub use laws::script_texts_have_one_reading;
-pub use read::read_script;
+pub use lines::LinesLeft;
+pub use read::{block_after, data_name, is_data, is_head, read_script};
 pub use script::{Blocks, Line, Lines, Script};
+pub use words::{is_passed_over, line_text};

@@ -4,9 +4,9 @@ ghost use Rattle.std.specs.Option.{option_map_or};
 ghost use Rattle.std.specs.List.{slice_split};
 ghost use Rattle.pl_script.specs.Lines.{without_last};
 
-// What is left of a text that is read line by line, and the number of the next line, counted from 1.
+/// What is left of a text that is read line by line, and the number of the next line, counted from 1.
 #[derive(Clone, Copy)]
-pub(crate) struct LinesLeft<'a> {
+pub struct LinesLeft<'a> {
     rest: Option<&'a [u8]>,
     number: u32,
 }
@@ -16,8 +16,8 @@ impl<'a> LinesLeft<'a> {
     ghost use Rattle.pl_script.specs.Lines.{lines_of};
     ghost use Rattle.pl_script.specs.Reading.{lines_left, size_left, number_left};
 
-    // All lines of a text.
-    pub(crate) fn of(text: &'a [u8]) -> LinesLeft<'a>
+    /// All lines of a text: its parts between bytes 10, where one at the end of the text begins no further line.
+    pub fn of(text: &'a [u8]) -> LinesLeft<'a>
         ensures lines { lines_left result ≡ lines_of text.now }
         ensures size { size_left result ≤ length text.now + 1 }
         ensures number { number_left result ≡ 1 }
@@ -28,15 +28,15 @@ impl<'a> LinesLeft<'a> {
         }
     }
 
-    // The number of the next line.
-    pub(crate) fn number(&self) -> u32
+    /// The number of the next line, or that of the last line and 1 where none is left.
+    pub fn number(&self) -> u32
         ensures { result ≡ number_left self.now }
     {
         self.number
     }
 
-    // Takes the next line, if there is one.
-    pub(crate) fn next(&mut self) -> Option<&'a [u8]>
+    /// Takes the next line, if there is one.
+    pub fn next(&mut self) -> Option<&'a [u8]>
         requires { number_left self.old + size_left self.old ≤ 2 ^ 29 }
         ensures some { IfSome result (λ line. lines_left self.old ≡ line.now ∷ lines_left self.new) }
         ensures none { IfNone result (lines_left self.old ≡ []) }

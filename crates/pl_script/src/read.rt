@@ -8,7 +8,7 @@ ghost use Rattle.pl_script.specs.declared.fault.ScriptFault.{ScriptFault as Faul
 ghost use Rattle.pl_script.specs.Lines.{lines_of, words_of, line_words};
 ghost use Rattle.pl_script.specs.Orders.{block_named};
 ghost use Rattle.pl_script.specs.Grammar.{IsScriptText, IsFirstBreach};
-ghost use Rattle.pl_script.specs.Script.{Script as Said, at, script_in, script_of, after_head, at_workers, body_in, commands_in, with_workers, workers_in, is_head, is_data, data_name, block_in, body_of, with_ends, is_block_end};
+ghost use Rattle.pl_script.specs.Script.{Script as Said, at, script_in, script_of, after_head, at_workers, body_in, commands_in, with_workers, workers_in, is_head, is_data, data_name, block_after, block_in, body_of, with_ends, is_block_end};
 ghost use Rattle.pl_script.specs.Forms.{is_name};
 ghost use Rattle.pl_script.specs.Kept.{HaveBlocks};
 ghost use Rattle.pl_script.specs.Reading.{lines_left, size_left, number_left, HasRoom, IsAfterBlock, IsTaken, IsOther, Answers, Stops, Refuses, Gives};
@@ -59,8 +59,8 @@ fn read_lines(alloc: Global, mut lines: LinesLeft<'_>) -> Result<Script, Refusal
     }
 }
 
-// Whether a line without its end is the head.
-fn is_head(text: &[u8]) -> bool
+/// Whether a line without its end is the head, `plater 1`.
+pub fn is_head(text: &[u8]) -> bool
     ensures { result ≡ is_head (words_of text.now) }
 {
     match two_words(text) {
@@ -200,8 +200,8 @@ fn take_block(
     Ok(())
 }
 
-// Whether a line is a data line.
-fn is_data(line: &[u8]) -> bool
+/// Whether a line is a data line: whether its first word is `data`.
+pub fn is_data(line: &[u8]) -> bool
     ensures { result ≡ is_data (line_words line.now) }
 {
     match next_word(line_text(line)) {
@@ -210,8 +210,9 @@ fn is_data(line: &[u8]) -> bool
     }
 }
 
-// The name in a data line.
-fn data_name(line: &[u8]) -> Result<&[u8], ScriptFault>
+/// The name in a data line. `BadLine` exactly where the line has not two words, or the second is no name: 1 to 64 bytes, each
+/// an ASCII letter, a digit, `_`, `-` or `.`.
+pub fn data_name(line: &[u8]) -> Result<&[u8], ScriptFault>
     ensures { mapped (λ name. name.now) result ≡ data_name (line_words line.now) }
 {
     match two_words(line_text(line)) {
@@ -241,6 +242,23 @@ fn block_in(
     if blocks.named(name).is_some() {
         return Err(LineStop::Fault(ScriptFault::SameData));
     }
+    block_after(alloc, name, lines)
+}
+
+/// The block of a name whose lines come next, up to a line `.end`, which is taken too. `CutData` exactly where no such line
+/// comes; then no line is left.
+pub fn block_after(
+    alloc: Global,
+    name: &[u8],
+    lines: &mut LinesLeft<'_>,
+) -> Result<Shared<Block>, LineStop>
+    requires { HasRoom lines.old }
+    ensures block { Answers result (block_after (lines_left lines.old) name.now) }
+    ensures named { IfOk result (λ block. block.name ≡ name.now) }
+    ensures short { IfOk result (λ block. length block.bytes ≤ 2 ^ 28) }
+    ensures rest { OnOk result (IsAfterBlock lines.old lines.new) }
+    ensures size { size_left lines.new ≤ size_left lines.old }
+{
     let Some(bytes) = body_of(alloc, lines)? else {
         return Err(LineStop::Fault(ScriptFault::CutData));
     };

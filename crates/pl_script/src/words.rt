@@ -12,8 +12,8 @@ fn is_blank(byte: u8) -> bool
     byte == b' ' || byte == b'\t'
 }
 
-// A line without one byte 13 at its end.
-pub(crate) fn line_text(line: &[u8]) -> &[u8]
+/// A line without one byte 13 at its end.
+pub fn line_text(line: &[u8]) -> &[u8]
     ensures text { result.now ≡ line_text line.now }
     ensures short { length result.now ≤ length line.now }
 {
@@ -86,8 +86,8 @@ pub(crate) fn next_word(text: &[u8]) -> Option<(&[u8], &[u8])>
     Some((&text[..end], &text[end..]))
 }
 
-// Whether a line is passed over outside blocks: it has no word, or a comment.
-pub(crate) fn is_passed_over(line: &[u8]) -> bool
+/// Whether a line is passed over outside blocks: whether it has no word, or its first word begins with `#`.
+pub fn is_passed_over(line: &[u8]) -> bool
     ensures { result ≡ is_passed_over (line_words line.now) }
 {
     match next_word(line_text(line)) {

@@ -10,6 +10,13 @@ use pl_grid::{Plane, Planes};
 use pl_units::NoMemory;
 use std::alloc::Global;
 
+/// The support of all layers, from the lowest on: the cells of each, and the strokes along them, in half cells.
+#[derive(Debug, Drop)]
+pub struct SupportSet {
+    pub cells: Planes,
+    pub strokes: StrokeLists,
+}
+
 /// The strokes that fill the layer `k`, in half cells: those of its solid cells, then those of its sparse cells, as dense
 /// as the percentage says, 0 to 100. Refused only for want of memory.
 pub fn layer_infill(

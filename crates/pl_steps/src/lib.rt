@@ -1,7 +1,7 @@
 //! What one object is printed as, computed layer by layer.
 #![tactic(auto)]
 
-mod filling;
+pub mod filling;
 pub mod lists;
 pub mod options;
 pub mod outlines;
@@ -12,7 +12,9 @@ mod standing;
 #[cfg(test)]
 mod tests;
 
-pub use filling::{infill, ironing, layer_infill, layer_ironing, layer_support, support_strokes};
+pub use filling::{
+    SupportSet, infill, ironing, layer_infill, layer_ironing, layer_support, support_strokes,
+};
 pub use lists::{LoopLists, Loops, StrokeLists, Strokes, Surfaces};
 pub use options::ObjectOptions;
 pub use outlines::{LayerPerimeters, PerimeterSet, layer_perimeters, perimeters};

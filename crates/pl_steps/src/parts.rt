@@ -1,11 +1,10 @@
 //! All that one object is printed as.
 ghost use Rattle.std.specs.Prelude.{◌≡◌, ◌<◌, ◌≤◌, length, map, slice_get, IfOk};
 ghost use Rattle.std.specs.Option.{option_copied};
-ghost use Rattle.std.specs.List.{range_with_len};
 ghost use Rattle.pl_fill.specs.Surfaces.{HaveEqualBoxes};
 ghost use Rattle.pl_model.specs.Problem.{heights_for};
 ghost use Rattle.pl_model.specs.Printable.{AreInBed};
-ghost use Rattle.pl_values.specs.ObjectValues.{layers_for, slices_for, loops_for, infill_for, ironing_for, supports_for, support_for, tool_for, corners_for};
+ghost use Rattle.pl_values.specs.ObjectValues.{layers_for, slices_for, loop_lists_for, infill_lists_for, ironing_lists_for, supports_for, support_lists_for, tool_for, corners_for};
 ghost use Rattle.pl_steps.specs.Options.{InRange};
 ghost use Rattle.pl_steps.specs.Layers.{each, loops_in, infill_in, ironing_in, surfaces_of};
 
@@ -101,10 +100,10 @@ pub fn object_parts(
     ensures corners { IfOk result (λ parts. parts.corners ≡ corners_for object.now) }
     ensures heights { IfOk result (λ parts. parts.heights ≡ heights_for config.now object.now) }
     ensures layers { IfOk result (λ parts. parts.layers ≡ layers_for config.now object.now) }
-    ensures loops { IfOk result (λ parts. parts.loops ≡ map (loops_for config.now object.now) (range_with_len 0 (layers_for config.now object.now))) }
-    ensures infill { IfOk result (λ parts. parts.infill ≡ map (infill_for config.now object.now) (range_with_len 0 (layers_for config.now object.now))) }
-    ensures ironing { IfOk result (λ parts. parts.ironing ≡ map (ironing_for config.now object.now) (range_with_len 0 (layers_for config.now object.now))) }
-    ensures support { IfOk result (λ parts. parts.support ≡ map (support_for config.now object.now) (range_with_len 0 (layers_for config.now object.now))) }
+    ensures loops { IfOk result (λ parts. parts.loops ≡ loop_lists_for config.now object.now) }
+    ensures infill { IfOk result (λ parts. parts.infill ≡ infill_lists_for config.now object.now) }
+    ensures ironing { IfOk result (λ parts. parts.ironing ≡ ironing_lists_for config.now object.now) }
+    ensures support { IfOk result (λ parts. parts.support ≡ support_lists_for config.now object.now) }
     ensures first_slice { IfOk result (λ parts. parts.first_slice ≡ slice_get (slices_for config.now object.now) 0) }
     ensures first_support { IfOk result (λ parts. parts.first_support ≡ slice_get (supports_for config.now object.now) 0) }
 {

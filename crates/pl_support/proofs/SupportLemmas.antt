@@ -8,7 +8,7 @@ use Rattle.std.proofs.lemmas.List.FromFn.{get_or-map-range_with_len, map-range_w
 use Rattle.pl_grid.specs.Extent.{Extent}
 use Rattle.pl_grid.specs.Planes.{Cells, filled, plane_of, empty_plane, dilated, difference, union_of}
 use Rattle.pl_grid.proofs.PlaneLemmas.{same_tests, filled_in}
-use Rattle.pl_support.specs.Support.{slice_at, has_cell, near_cell, is_free, is_support, support_at, support_of}
+use Rattle.pl_support.specs.Support.{slice_at, has_cell, near_cell, is_free, covered_below, is_support, support_at, support_of}
 use Rattle.pl_support.proofs.Carried.{some_above, some_above_suc, some_above_top, some_above_lacks, some_above_any, some_above_free, free_more}
 
 abbrev x_at : Extent → ℕ → ℤ
@@ -83,18 +83,37 @@ next_is slices k boxes less =
     ∙ sym (support_is slices k (x_at b i) (y_at b j) ∙ some_above_suc (has_cell slices (x_at b i) (y_at b j)) (near_cell slices (x_at b i) (y_at b j)) (length slices) k less))
     ∙ ap (λ e. plane_of e (is_support true false slices k)) (equal_boxes slices boxes (k + 1) k less (omega arith))
 
+pub highest_is : (slices : List Cells) (top : Cells) (b : Extent) → 0 < length slices → top ≡ get_or slices (length slices - 1) top → b ≡ top.bounds → empty_plane b ≡ support_at true false slices (length slices - 1)
+highest_is slices top b some here box = ap empty_plane (box ∙ ap (λ p. p.bounds) (slice_is slices (length slices - 1) top (omega arith) here)) ∙ top_is slices (length slices - 1) (omega arith)
+
+pub carried_is : (slices : List Cells) (k : ℕ) (carried upper lower : Cells) → HaveEqualBoxes slices → k + 1 < length slices → carried ≡ support_at true false slices (k + 1) → upper ≡ get_or slices (k + 1) upper → lower ≡ get_or slices k lower → difference (union_of carried (difference upper (dilated lower))) lower ≡ support_at true false slices k
+carried_is slices k carried upper lower boxes less is_carried is_upper is_lower =
+    let high_is : upper ≡ slice_at slices (k + 1) = slice_is slices (k + 1) upper less is_upper in
+    let low_is : lower ≡ slice_at slices k = slice_is slices k lower (omega arith) is_lower in
+    ap (λ p. difference (union_of p (difference upper (dilated lower))) lower) is_carried
+    ∙ ap (λ p. difference (union_of (support_at true false slices (k + 1)) (difference p (dilated lower))) lower) high_is
+    ∙ ap (λ p. difference (union_of (support_at true false slices (k + 1)) (difference (slice_at slices (k + 1)) (dilated p))) p) low_is
+    ∙ next_is slices k boxes less
+
+pub boxes_of_support : (slices : List Cells) (k : ℕ) (carried upper : Cells) → k < length slices → carried ≡ support_at true false slices k → upper ≡ get_or slices k upper → carried.bounds ≡ upper.bounds
+boxes_of_support slices k carried upper less is_carried is_upper = ap (λ p. p.bounds) is_carried ∙ sym (ap (λ p. p.bounds) (slice_is slices k upper less is_upper))
+
+pub boxes_of_slices : (slices : List Cells) (i j : ℕ) (p q : Cells) → HaveEqualBoxes slices → i < length slices → j < length slices → p ≡ get_or slices i p → q ≡ get_or slices j q → p.bounds ≡ q.bounds
+boxes_of_slices slices i j p q boxes hi hj hp hq =
+    ap (λ r. r.bounds) (slice_is slices i p hi hp) ∙ equal_boxes slices boxes i j hi hj ∙ sym (ap (λ r. r.bounds) (slice_is slices j q hj hq))
+
 -- the layers above k are found, the top one first, and the carried plane is that of layer k
 pub record CarriedTo (slices : List Cells) (k : ℕ) (found : List Cells) (carried : Cells) : Type 0 where
   pub there : k < length slices
   pub here : carried ≡ support_at true false slices k
   pub above : found ≡ reverse (map (support_at true false slices) (range_with_len (k + 1) (length slices - (k + 1))))
 
-pub carried_start : (slices : List Cells) (k : ℕ) (carried top : Cells) (b : Extent) → k + 1 ≡ length slices → top ≡ get_or slices k top → b ≡ top.bounds → carried ≡ empty_plane b → CarriedTo slices k [] carried
-carried_start slices k carried top b last here box e =
+pub carried_start : (slices : List Cells) (k : ℕ) (carried : Cells) → k + 1 ≡ length slices → carried ≡ support_at true false slices k → CarriedTo slices k [] carried
+carried_start slices k carried last is =
     let none : length slices - (k + 1) ≡ 0 = omega arith in
     record {
       there = omega arith;
-      here = e ∙ ap empty_plane (box ∙ ap (λ p. p.bounds) (slice_is slices k top (omega arith) here)) ∙ top_is slices k (omega arith);
+      here = is;
       above = ap (λ n. reverse (map (support_at true false slices) (range_with_len (k + 1) n))) (sym none);
     }
 
@@ -106,20 +125,12 @@ with_here slices k found carried w =
     ∙ sym (reverse_onto (map (support_at true false slices) (range_with_len (k + 1) (length slices - (k + 1)))) (support_at true false slices k) [])
     ∙ ap (λ n. reverse (map (support_at true false slices) (range_with_len k n))) one
 
-pub carried_more : (slices : List Cells) (k : ℕ) (found more : List Cells) (carried upper lower next : Cells) → HaveEqualBoxes slices → CarriedTo slices k found carried → 0 < k → upper ≡ get_or slices k upper → lower ≡ get_or slices (k - 1) lower → next ≡ difference (union_of carried (difference upper (dilated lower))) lower → more ≡ found ++ carried ∷ [] → CarriedTo slices (k - 1) more next
-carried_more slices k found more carried upper lower next boxes w some is_upper is_lower is_next is_more =
+pub carried_more : (slices : List Cells) (k : ℕ) (found more : List Cells) (carried next : Cells) → CarriedTo slices k found carried → 0 < k → next ≡ support_at true false slices (k - 1) → more ≡ found ++ carried ∷ [] → CarriedTo slices (k - 1) more next
+carried_more slices k found more carried next w some is_next is_more =
     let back : k ≡ k - 1 + 1 = omega arith in
-    let low : k - 1 + 1 < length slices = omega (arith, w.there) in
-    let high_is : upper ≡ slice_at slices (k - 1 + 1) = slice_is slices k upper w.there is_upper ∙ ap (slice_at slices) back in
-    let low_is : lower ≡ slice_at slices (k - 1) = slice_is slices (k - 1) lower (omega arith) is_lower in
     record {
-      there = omega arith;
-      here =
-          is_next
-          ∙ ap (λ p. difference (union_of p (difference upper (dilated lower))) lower) (w.here ∙ ap (support_at true false slices) back)
-          ∙ ap (λ p. difference (union_of (support_at true false slices (k - 1 + 1)) (difference p (dilated lower))) lower) high_is
-          ∙ ap (λ p. difference (union_of (support_at true false slices (k - 1 + 1)) (difference (slice_at slices (k - 1 + 1)) (dilated p))) p) low_is
-          ∙ next_is slices (k - 1) boxes low;
+      there = omega (arith, w.there);
+      here = is_next;
       above =
           is_more
           ∙ with_here slices k found carried w
@@ -135,19 +146,9 @@ carried_all slices k found more turned carried w first is_more is_turned =
     ∙ ap (λ m. map (support_at true false slices) (range_with_len m (length slices - m))) first
     ∙ ap (λ n. map (support_at true false slices) (range_with_len 0 n)) whole
 
-pub boxes_of_carried : (slices : List Cells) (k : ℕ) (found : List Cells) (carried upper : Cells) → CarriedTo slices k found carried → upper ≡ get_or slices k upper → carried.bounds ≡ upper.bounds
-boxes_of_carried slices k found carried upper w is_upper = ap (λ p. p.bounds) w.here ∙ sym (ap (λ p. p.bounds) (slice_is slices k upper w.there is_upper))
-
-pub boxes_of_slices : (slices : List Cells) (i j : ℕ) (p q : Cells) → HaveEqualBoxes slices → i < length slices → j < length slices → p ≡ get_or slices i p → q ≡ get_or slices j q → p.bounds ≡ q.bounds
-boxes_of_slices slices i j p q boxes hi hj hp hq =
-    ap (λ r. r.bounds) (slice_is slices i p hi hp) ∙ equal_boxes slices boxes i j hi hj ∙ sym (ap (λ r. r.bounds) (slice_is slices j q hj hq))
-
 -- ---- from the bottom up
 
-abbrev pub under : List Cells → ℕ → Cells
-under slices k = plane_of (slice_at slices 0).bounds (λ x y. not (is_free (has_cell slices x y) 0 k))
-
-kept_is : (slices : List Cells) (k : ℕ) → HaveEqualBoxes slices → k < length slices → difference (support_at true false slices k) (under slices k) ≡ support_at true true slices k
+kept_is : (slices : List Cells) (k : ℕ) → HaveEqualBoxes slices → k < length slices → difference (support_at true false slices k) (covered_below slices k) ≡ support_at true true slices k
 kept_is slices k boxes less =
     let b : Extent = (slice_at slices k).bounds in
     let t : ℤ → ℤ → Bool = is_support true false slices k in
@@ -159,7 +160,7 @@ kept_is slices k boxes less =
     ∙ ap (λ v. t (x_at b i) (y_at b j) && v) (not_not (is_free (has_cell slices (x_at b i) (y_at b j)) 0 k))
     ∙ sym (plate_is slices k (x_at b i) (y_at b j)))
 
-under_is : (slices : List Cells) (k : ℕ) → union_of (under slices k) (slice_at slices k) ≡ under slices (k + 1)
+under_is : (slices : List Cells) (k : ℕ) → union_of (covered_below slices k) (slice_at slices k) ≡ covered_below slices (k + 1)
 under_is slices k =
     let b : Extent = (slice_at slices 0).bounds in
     let s : ℤ → ℤ → Bool = λ x y. not (is_free (has_cell slices x y) 0 k) in
@@ -168,48 +169,42 @@ under_is slices k =
     ∙ not_and (is_free (has_cell slices (x_at b i) (y_at b j)) 0 k) (filled (slice_at slices k) (x_at b i) (y_at b j))
     ∙ ap not (sym (free_more (has_cell slices (x_at b i) (y_at b j)) k)))
 
--- the layers below k are kept, and the other plane has the cells of their slices
-pub record KeptTo (slices : List Cells) (k : ℕ) (kept : List Cells) (below : Cells) : Type 0 where
-  pub done : kept ≡ map (support_at true true slices) (range_with_len 0 k)
-  pub lower : below ≡ under slices k
+pub nothing_is : (slices : List Cells) (first : Cells) (b : Extent) → 0 < length slices → first ≡ get_or slices 0 first → b ≡ first.bounds → empty_plane b ≡ covered_below slices 0
+nothing_is slices first b some here box = ap empty_plane (box ∙ ap (λ p. p.bounds) (slice_is slices 0 first some here))
 
-pub kept_none : (slices : List Cells) (below first : Cells) (b : Extent) → 0 < length slices → first ≡ get_or slices 0 first → b ≡ first.bounds → below ≡ empty_plane b → KeptTo slices 0 [] below
-kept_none slices below first b some here box e = record {
-  done = refl;
-  lower = e ∙ ap empty_plane (box ∙ ap (λ p. p.bounds) (slice_is slices 0 first some here));
-}
+pub covered_is : (slices : List Cells) (k : ℕ) (covered slice : Cells) → k < length slices → covered ≡ covered_below slices k → slice ≡ get_or slices k slice → union_of covered slice ≡ covered_below slices (k + 1)
+covered_is slices k covered slice less is_covered is_slice =
+    ap (λ p. union_of p slice) is_covered
+    ∙ ap (union_of (covered_below slices k)) (slice_is slices k slice less is_slice)
+    ∙ under_is slices k
+
+pub over_plate_is : (slices : List Cells) (k : ℕ) (cells covered : Cells) → HaveEqualBoxes slices → k < length slices → cells ≡ support_at true false slices k → covered ≡ covered_below slices k → difference cells covered ≡ support_at true true slices k
+over_plate_is slices k cells covered boxes less is_cells is_covered =
+    ap (λ p. difference p covered) is_cells ∙ ap (difference (support_at true false slices k)) is_covered ∙ kept_is slices k boxes less
+
+pub boxes_of_kept : (slices : List Cells) (k : ℕ) (cells covered : Cells) → HaveEqualBoxes slices → k < length slices → cells ≡ support_at true false slices k → covered ≡ covered_below slices k → cells.bounds ≡ covered.bounds
+boxes_of_kept slices k cells covered boxes less is_cells is_covered =
+    ap (λ p. p.bounds) is_cells ∙ equal_boxes slices boxes k 0 less (omega arith) ∙ sym (ap (λ p. p.bounds) is_covered)
+
+pub boxes_of_covered : (slices : List Cells) (k : ℕ) (covered slice : Cells) → HaveEqualBoxes slices → k < length slices → covered ≡ covered_below slices k → slice ≡ get_or slices k slice → covered.bounds ≡ slice.bounds
+boxes_of_covered slices k covered slice boxes less is_covered is_slice =
+    ap (λ p. p.bounds) is_covered ∙ equal_boxes slices boxes 0 k (omega arith) less ∙ sym (ap (λ p. p.bounds) (slice_is slices k slice less is_slice))
+
+-- the layers below k are kept, and the other plane has the cells of their slices
+pub record KeptTo (slices : List Cells) (k : ℕ) (kept : List Cells) (covered : Cells) : Type 0 where
+  pub done : kept ≡ map (support_at true true slices) (range_with_len 0 k)
+  pub lower : covered ≡ covered_below slices k
 
 pub support_there : (slices cells : List Cells) (k : ℕ) (here : Cells) → cells ≡ support_of true false slices → k < length slices → here ≡ get_or cells k here → here ≡ support_at true false slices k
 support_there slices cells k here all less at =
     at ∙ ap (λ ps. get_or ps k here) all ∙ get_or-map-range_with_len (support_at true false slices) 0 (length slices) k k here less (omega arith)
 
-pub kept_more : (slices : List Cells) (k : ℕ) (kept more : List Cells) (below next slice here left : Cells) → HaveEqualBoxes slices → KeptTo slices k kept below → k < length slices → here ≡ support_at true false slices k → slice ≡ get_or slices k slice → left ≡ difference here below → more ≡ kept ++ left ∷ [] → next ≡ union_of below slice → KeptTo slices (k + 1) more next
-kept_more slices k kept more below next slice here left boxes w less is_here is_slice is_left is_more is_next = record {
-  done =
-      is_more
-      ∙ ap (λ p. kept ++ p ∷ []) (is_left ∙ ap (λ p. difference p below) is_here ∙ ap (difference (support_at true false slices k)) w.lower ∙ kept_is slices k boxes less)
-      ∙ ap (λ ps. ps ++ support_at true true slices k ∷ []) w.done
-      ∙ sym (map-range_with_len_more (support_at true true slices) 0 k k (omega arith));
-  lower =
-      is_next
-      ∙ ap (λ p. union_of p slice) w.lower
-      ∙ ap (union_of (under slices k)) (slice_is slices k slice less is_slice)
-      ∙ under_is slices k;
-}
-
-pub boxes_of_kept : (slices : List Cells) (k : ℕ) (kept : List Cells) (below here : Cells) → HaveEqualBoxes slices → KeptTo slices k kept below → k < length slices → here ≡ support_at true false slices k → here.bounds ≡ below.bounds
-boxes_of_kept slices k kept below here boxes w less is_here =
-    ap (λ p. p.bounds) is_here ∙ equal_boxes slices boxes k 0 less (omega arith) ∙ sym (ap (λ p. p.bounds) w.lower)
-
-pub boxes_of_under : (slices : List Cells) (k : ℕ) (kept : List Cells) (below slice : Cells) → HaveEqualBoxes slices → KeptTo slices k kept below → k < length slices → slice ≡ get_or slices k slice → below.bounds ≡ slice.bounds
-boxes_of_under slices k kept below slice boxes w less is_slice =
-    ap (λ p. p.bounds) w.lower ∙ equal_boxes slices boxes 0 k (omega arith) less ∙ sym (ap (λ p. p.bounds) (slice_is slices k slice less is_slice))
-
 -- ---- no support
 
-pub none_more : (slices : List Cells) (k : ℕ) (planes more : List Cells) (slice plane : Cells) (b : Extent) → planes ≡ map (support_at false false slices) (range_with_len 0 k) → k < length slices → slice ≡ get_or slices k slice → b ≡ slice.bounds → plane ≡ empty_plane b → more ≡ planes ++ plane ∷ [] → more ≡ map (support_at false false slices) (range_with_len 0 (k + 1))
-none_more slices k planes more slice plane b w less is_slice box is_plane is_more =
-    is_more
-    ∙ ap (λ p. planes ++ p ∷ []) (is_plane ∙ ap empty_plane (box ∙ ap (λ p. p.bounds) (slice_is slices k slice less is_slice)))
-    ∙ ap (λ ps. ps ++ support_at false false slices k ∷ []) w
-    ∙ sym (map-range_with_len_more (support_at false false slices) 0 k k (omega arith))
+pub none_is : (slices : List Cells) (k : ℕ) (slice : Cells) (b : Extent) → k < length slices → slice ≡ get_or slices k slice → b ≡ slice.bounds → empty_plane b ≡ support_at false false slices k
+none_is slices k slice b less is_slice box = ap empty_plane (box ∙ ap (λ p. p.bounds) (slice_is slices k slice less is_slice))
+
+-- ---- one layer more
+
+pub layers_more : (layer : ℕ → Cells) (k : ℕ) (planes more : List Cells) (plane : Cells) → planes ≡ map layer (range_with_len 0 k) → plane ≡ layer k → more ≡ planes ++ plane ∷ [] → more ≡ map layer (range_with_len 0 (k + 1))
+layers_more layer k planes more plane is is_plane is_more = is_more ∙ (λ i. is i ++ is_plane i ∷ []) ∙ sym (map-range_with_len_more layer 0 k k (omega arith))

@@ -24,6 +24,10 @@ is_free has k m = list_all (λ j. not (has j)) (range_with_len k (m - k))
 abbrev pub overhangs : (ℕ → Bool) → (ℕ → Bool) → ℕ → ℕ → Bool
 overhangs has near k m = (has m && not (near (m - 1))) && is_free has k m
 
+-- the cells that the slice of some layer below k has, in the box of the lowest
+abbrev pub covered_below : List Cells → ℕ → Cells
+covered_below slices k = plane_of (slice_at slices 0).bounds (λ x y. not (is_free (has_cell slices x y) 0 k))
+
 -- some layer m above k overhangs the cell; for `plate_only` one below which no layer has it
 abbrev pub is_overhung : Bool → List Cells → ℕ → ℤ → ℤ → Bool
 is_overhung plate_only slices k x y =

@@ -1,8 +1,10 @@
-//! The pass from the top down, and the one from the bottom up.
+//! The passes over all layers: from the top down, and from the bottom up.
 ghost use Rattle.std.specs.Prelude.{◌≡◌, IfOk, AllPairs, false, true};
-ghost use Rattle.pl_grid.specs.Planes.{dilated, difference, union_of};
 ghost use Rattle.pl_support.specs.Support.{support_of};
 
+use crate::steps::{
+    cells_below, cells_over_plate, covered_with, highest_cells, no_cells, nothing_covered,
+};
 use pl_grid::Plane;
 use pl_units::NoMemory;
 use std::alloc::Global;
@@ -18,9 +20,9 @@ pub(crate) fn below_overhangs(alloc: Global, slices: &[Plane]) -> Result<Vec<Pla
         return Ok(found);
     }
     let mut k = slices.len() - 1;
-    let mut carried = Plane::empty(alloc, slices[k].bounds())?;
+    let mut carried = highest_cells(alloc, slices)?;
     while k > 0 {
-        let next = carried_down(alloc, &carried, &slices[k], &slices[k - 1])?;
+        let next = cells_below(alloc, slices, &carried, k - 1)?;
         found.push(carried)?;
         carried = next;
         k -= 1;
@@ -28,24 +30,6 @@ pub(crate) fn below_overhangs(alloc: Global, slices: &[Plane]) -> Result<Vec<Pla
     found.push(carried)?;
     found.reverse();
     Ok(found)
-}
-
-/// The cells that are carried past a slice: those that were carried to the slice above it and those where that
-/// one overhangs, without its own.
-fn carried_down(
-    alloc: Global,
-    carried: &Plane,
-    upper: &Plane,
-    lower: &Plane,
-) -> Result<Plane, NoMemory>
-    requires carried { carried.now.bounds ≡ upper.now.bounds }
-    requires lower { lower.now.bounds ≡ upper.now.bounds }
-    ensures { IfOk result (λ p. p ≡ difference (union_of carried.now (difference upper.now (dilated lower.now))) lower.now) }
-{
-    let near = lower.dilate(alloc)?;
-    let overhang = upper.minus(alloc, &near)?;
-    let all = carried.union(alloc, &overhang)?;
-    all.minus(alloc, lower)
 }
 
 /// The support cells of each layer that no slice below has, from all support cells.
@@ -62,10 +46,21 @@ pub(crate) fn over_plate(
     if slices.is_empty() {
         return Ok(kept);
     }
-    let mut below = Plane::empty(alloc, slices[0].bounds())?;
-    for (k, slice) in slices.iter().enumerate() {
-        kept.push(cells[k].minus(alloc, &below)?)?;
-        below = below.union(alloc, slice)?;
+    let mut covered = nothing_covered(alloc, slices)?;
+    for k in 0..slices.len() {
+        kept.push(cells_over_plate(alloc, slices, &cells[k], &covered, k)?)?;
+        covered = covered_with(alloc, slices, &covered, k)?;
     }
     Ok(kept)
+}
+
+/// A plane without cells for each layer.
+pub(crate) fn nowhere(alloc: Global, slices: &[Plane]) -> Result<Vec<Plane>, NoMemory>
+    ensures { IfOk result (λ v. v.items ≡ support_of false false slices.now) }
+{
+    let mut planes = Vec::new(alloc);
+    for k in 0..slices.len() {
+        planes.push(no_cells(alloc, slices, k)?)?;
+    }
+    Ok(planes)
 }

@@ -2,7 +2,7 @@
 ghost use Rattle.std.specs.Prelude.{◌≡◌, IfOk, AllPairs, false, true};
 ghost use Rattle.pl_support.specs.Support.{support_of};
 
-use crate::passes::{below_overhangs, over_plate};
+use crate::passes::{below_overhangs, nowhere, over_plate};
 use pl_grid::{Plane, Planes};
 use pl_units::NoMemory;
 use std::alloc::Global;
@@ -22,22 +22,11 @@ pub fn support(
 {
     let slices = slices.planes();
     if !on {
-        return Ok(Planes::of(no_cells(alloc, slices)?));
+        return Ok(Planes::of(nowhere(alloc, slices)?));
     }
     let cells = below_overhangs(alloc, slices)?;
     if !plate_only {
         return Ok(Planes::of(cells));
     }
     Ok(Planes::of(over_plate(alloc, slices, cells.as_slice())?))
-}
-
-/// A plane without cells for each layer.
-fn no_cells(alloc: Global, slices: &[Plane]) -> Result<Vec<Plane>, NoMemory>
-    ensures { IfOk result (λ v. v.items ≡ support_of false false slices.now) }
-{
-    let mut planes = Vec::new(alloc);
-    for slice in slices {
-        planes.push(Plane::empty(alloc, slice.bounds())?)?;
-    }
-    Ok(planes)
 }

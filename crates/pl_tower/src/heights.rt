@@ -22,8 +22,8 @@ pub fn tools_of_heights(alloc: Global, used: &[ToolSet]) -> Result<Vec<Tools>, N
     Ok(heights)
 }
 
-/// The current tool after a height with these tools.
-fn tool_after(current: u8, tools: &Tools) -> u8
+/// The current tool after a height with these tools: the last of them, and still the one before where there are none.
+pub fn tool_after(current: u8, tools: &Tools) -> u8
     ensures { result ≡ last_tool current tools.now }
 {
     tools.tools().last().copied().unwrap_or(current)

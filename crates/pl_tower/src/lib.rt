@@ -10,7 +10,7 @@ pub mod tool_set;
 pub mod tools;
 mod tower;
 
-pub use heights::tools_of_heights;
+pub use heights::{tool_after, tools_of_heights};
 pub use order::tool_order;
 pub use tool_set::ToolSet;
 pub use tools::Tools;

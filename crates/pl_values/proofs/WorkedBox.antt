@@ -42,7 +42,7 @@ use Rattle.pl_model.specs.Contents.{Contents, fresh}
 use Rattle.pl_model.specs.Effective.{value_for}
 use Rattle.pl_model.specs.Problem.{heights_for, cell_of, length_in}
 use Rattle.pl_values.specs.Ascending.{ascending}
-use Rattle.pl_values.specs.ObjectValues.{layers_for, slices_for, loops_for, infill_for, ironing_for, support_for, top_for, tool_for, corners_for}
+use Rattle.pl_values.specs.ObjectValues.{layers_for, slices_for, loops_for, infill_for, ironing_for, support_for, loop_lists_for, infill_lists_for, ironing_lists_for, support_lists_for, top_for, tool_for, corners_for}
 use Rattle.pl_values.specs.Options.{whole_for, flag_for, flag_in, cells_in}
 use Rattle.pl_values.specs.PrintValues.{tops_for, tops_of, tools_of, tool_set_of, layer_with_top, option_length, farther, ground_of, skirt_for, brim_for, block_for, bed, is_below}
 use Rattle.pl_values.specs.Whole.{of_place, print_of, plate_gcode}
@@ -254,12 +254,19 @@ settings_are i = record {
 abbrev layer_at_height_by : List ℤ → List ℤ → ℕ → Option ℕ
 layer_at_height_by all mine i = position (λ top. int_eq top (slice_index_or all i (pos 0))) mine
 
+-- of each of its two layers, and of each change of tools
+abbrev of_each : {X : Type 0} → ℕ → (ℕ → List X) → ℕ → List X
+of_each count each k = slice_index_or (map each (range_with_len 0 count)) k []
+
+of_layers : {X : Type 0} (value each : ℕ → List X) → ((k : ℕ) → value k ≡ each k) → (k : ℕ) → of_each (layers_for config box) value k ≡ of_each 2 each k
+of_layers value each same k i = of_each (layers_are i) (λ n. same n i) k
+
 abbrev print : Print
 print = record {
   settings = settings;
   heights = map (λ z. record { 0 = z }) tops;
   tools = λ i. slice_index_or ((0 ∷ []) ∷ (0 ∷ []) ∷ []) i [];
-  block = λ i change. [];
+  block = λ i change. of_each 4 (λ _. []) change;
   skirt = [];
   brim = [];
   places = 0 ∷ [];
@@ -268,10 +275,10 @@ print = record {
   layers = at_first 2 0;
   layer_at = λ place i. at_first (layer_at_height_by tops tops i) None place;
   layer_height = λ place k. at_first (layer_height_of heights k) (record { 0 = pos 0 }) place;
-  loops = λ place k. at_first [] [] place;
-  infill = λ place k. at_first (infill k) [] place;
-  ironing = λ place k. at_first [] [] place;
-  support = λ place k. at_first (support k) [] place;
+  loops = λ place k. at_first (of_each 2 (λ _. []) k) [] place;
+  infill = λ place k. at_first (of_each 2 infill k) [] place;
+  ironing = λ place k. at_first (of_each 2 (λ _. []) k) [] place;
+  support = λ place k. at_first (of_each 2 support k) [] place;
 }
 
 print_is : print_of plate ≡ print
@@ -279,7 +286,7 @@ print_is i = record {
   settings = settings_are i;
   heights = map (λ z. record { 0 = z }) (print_tops_are i);
   tools = λ j. slice_index_or (tools_are i) j [];
-  block = λ j change. no_block change i;
+  block = λ j change. of_each 4 (λ n. no_block n i) change;
   skirt = no_skirt i;
   brim = no_brim i;
   places = 0 ∷ [];
@@ -288,10 +295,10 @@ print_is i = record {
   layers = λ place. at_place 0 (layers_for config) 2 layers_are place i;
   layer_at = λ place j. at_place None (λ object. layer_with_top config object (slice_index_or (tops_of plate) j (pos 0))) (layer_at_height_by tops tops j) (λ h. layer_at_height_by (print_tops_are h) (tops_are h) j) place i;
   layer_height = λ place k. at_place (record { 0 = pos 0 }) (λ object. layer_height_of (heights_for config object) k) (layer_height_of heights k) (λ h. layer_height_of (heights_are h) k) place i;
-  loops = λ place k. at_place [] (λ object. loops_for config object k) [] (no_loops k) place i;
-  infill = λ place k. at_place [] (λ object. infill_for config object k) (infill k) (infill_is k) place i;
-  ironing = λ place k. at_place [] (λ object. ironing_for config object k) [] (no_ironing k) place i;
-  support = λ place k. at_place [] (λ object. support_for config object k) (support k) (support_strokes_are k) place i;
+  loops = λ place k. at_place [] (λ object. slice_index_or (loop_lists_for config object) k []) (of_each 2 (λ _. []) k) (of_layers (loops_for config box) (λ _. []) no_loops k) place i;
+  infill = λ place k. at_place [] (λ object. slice_index_or (infill_lists_for config object) k []) (of_each 2 infill k) (of_layers (infill_for config box) infill infill_is k) place i;
+  ironing = λ place k. at_place [] (λ object. slice_index_or (ironing_lists_for config object) k []) (of_each 2 (λ _. []) k) (of_layers (ironing_for config box) (λ _. []) no_ironing k) place i;
+  support = λ place k. at_place [] (λ object. slice_index_or (support_lists_for config object) k []) (of_each 2 support k) (of_layers (support_for config box) support support_strokes_are k) place i;
 }
 
 -- ---- its G-code

@@ -73,6 +73,24 @@ supports_for config object = support_of (flag_for config object key.SupportMater
 abbrev pub support_for : KeyMap → Object → ℕ → List Stroke
 support_for config object k = strokes_of (layer_axis k) 2 (layer_at (supports_for config object) k)
 
+-- ---- all layers
+
+-- of each layer, from the lowest on: its loops
+abbrev pub loop_lists_for : KeyMap → Object → List (List (List Corner))
+loop_lists_for config object = map (loops_for config object) (range_with_len 0 (layers_for config object))
+
+-- the strokes that fill it
+abbrev pub infill_lists_for : KeyMap → Object → List (List Stroke)
+infill_lists_for config object = map (infill_for config object) (range_with_len 0 (layers_for config object))
+
+-- those that iron it
+abbrev pub ironing_lists_for : KeyMap → Object → List (List Stroke)
+ironing_lists_for config object = map (ironing_for config object) (range_with_len 0 (layers_for config object))
+
+-- and those that support it
+abbrev pub support_lists_for : KeyMap → Object → List (List Stroke)
+support_lists_for config object = map (support_for config object) (range_with_len 0 (layers_for config object))
+
 -- ---- tool and place
 
 -- the tool of an object, counted from 0: options count from 1, and nought is the first one too

@@ -108,3 +108,7 @@ block_for plate change =
     if flag_in (get plate.config key.WipeTower)
     then block_of (cell_of (option_length plate key.WipeTowerX)) (cell_of (option_length plate key.WipeTowerY)) (cells_in (option_length plate key.WipeTowerWidth)) change
     else []
+
+-- the tower's strokes of each of a height's changes, of which there are at most four
+abbrev pub blocks_of : Contents → List (List Stroke)
+blocks_of plate = map (block_for plate) (range_with_len 0 4)

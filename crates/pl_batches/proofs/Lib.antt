@@ -1,0 +1,4 @@
+mod Along
+mod Lists
+mod Passing
+mod Texts

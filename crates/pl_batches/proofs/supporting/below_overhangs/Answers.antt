@@ -1,0 +1,21 @@
+use Rattle.std.proofs.Common.{◌≡◌, rules, true, false, length, ◌∙◌}
+use Rattle.pl_support.specs.Support.{support_at}
+use Rattle.pl_steps.specs.Layers.{each}
+use Rattle.pl_batches.specs.Passes.{from_top, strokes_at}
+use Rattle.pl_batches.proofs.Lists.{along_cells, turned}
+use Rattle.pl_batches.proofs.supporting.below_overhangs.Goals as goal
+
+pub returns-in-Done-clause-cells : goal.returns-in-Done-clause-cells
+returns-in-Done-clause-cells g c =
+    let layer = support_at true false c.args.slices.now in
+    let cells : c.in-Done.made.cells.items ≡ each (length c.args.slices.now) (from_top (length c.args.slices.now) layer) = search rules in
+    c.into_set.ensures.cells ∙ c.turned.ensures.cells ∙ turned (length c.args.slices.now) layer c.in-Done.made.cells.items cells
+
+pub returns-in-Done-clause-strokes : goal.returns-in-Done-clause-strokes
+returns-in-Done-clause-strokes g c =
+    let layer = support_at true false c.args.slices.now in
+    let cells : c.in-Done.made.cells.items ≡ each (length c.args.slices.now) (from_top (length c.args.slices.now) layer) = search rules in
+    let strokes : c.in-Done.made.strokes.items ≡ each (length c.args.slices.now) (from_top (length c.args.slices.now) (strokes_at layer)) = search rules in
+    along_cells (length c.args.slices.now) layer c.into_set.result.cells _
+    (c.into_set.ensures.cells ∙ c.turned.ensures.cells ∙ turned (length c.args.slices.now) layer c.in-Done.made.cells.items cells)
+    (c.into_set.ensures.strokes ∙ c.turned.ensures.strokes ∙ turned (length c.args.slices.now) (strokes_at layer) c.in-Done.made.strokes.items strokes)

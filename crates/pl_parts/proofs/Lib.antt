@@ -1,0 +1,2 @@
+pub mod PlateLists
+mod Written

@@ -1,0 +1,5 @@
+pub mod Near
+pub mod Blocks
+pub mod Texts
+pub mod OneReading
+pub mod Meaning

@@ -1,0 +1,6 @@
+pub mod Outputs
+pub mod ObjectSteps
+pub mod Values
+pub mod Batches
+pub mod Names
+pub mod Fff
