@@ -1,9 +1,8 @@
 -- Values of coded types that do not differ are equal.
-use Rattle.std.proofs.Common.{◌≡◌, ℕ, Bool, true, false, not, true≢false, IsTrue, sym, ap, refl, ◌∙◌}
-use Rattle.std.specs.Prelude.{◌↔◌}
+use Rattle.std.proofs.Common.{◌≡◌, Bool, true, false, not, true≢false, IsTrue, sym, ap, refl}
 use Rattle.std.specs.Bool.{Decides}
 use Rattle.std.specs.Coded.{Coded}
-use Rattle.std.proofs.lemmas.Bool.{not-false, not_from_true, false_from_ne_true}
+use Rattle.std.proofs.lemmas.Bool.{not-false, not_from_true}
 use Rattle.std.proofs.lemmas.Bool.Decides.{Decides-eqb, Decides-and, Decides-like}
 use base.Stored.{Gv, gnil, gnum, gcons, num}
 use Rattle.pl_model.specs.Same.{same_code}

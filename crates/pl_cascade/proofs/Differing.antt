@@ -1,10 +1,10 @@
 -- What differs between two plates, place by place.
-use Rattle.std.proofs.Common.{◌≡◌, ℕ, ◌+◌, ◌-◌, ◌<◌, ◌≤◌, Bool, true, false, nat_lt, Option, Some, None, refl, ap, sym, ◌∙◌, arith, inl, inr, option_and_then}
+use Rattle.std.proofs.Common.{◌≡◌, ℕ, ◌+◌, ◌-◌, ◌<◌, ◌≤◌, Bool, true, false, nat_lt, Option, Some, refl, ap, sym, ◌∙◌, arith, inl, inr, option_and_then}
 use Rattle.std.specs.Prelude.{◌==◌, ◌&&◌, ◌||◌, not, if◌then◌else◌}
 use Rattle.std.specs.Coded.{coded_option}
 use Rattle.std.specs.FinMap.{get}
 use Rattle.std.specs.List.{list_any, range_with_len}
-use Rattle.std.proofs.lemmas.Bool.{and_parts, cases_Bool, cases_lt, both_ways, lt-ltb, le-ltb, ltb-true, ltb-false, cond-true, cond-false, false_from_ne_true, true_from_ne_false, and_left, and_right, true≢false}
+use Rattle.std.proofs.lemmas.Bool.{and_parts, cases_Bool, cases_lt, lt-ltb, le-ltb, ltb-true, cond-true, cond-false, false_from_ne_true, true_from_ne_false, and_left, and_right}
 use Rattle.pl_keys.specs.contracts.value.Value.{the_row as value_row}
 use Rattle.pl_keys.specs.declared.key.Key.{Key}
 use Rattle.pl_keys.specs.declared.value.Value.{Value}
@@ -16,11 +16,11 @@ use Rattle.pl_model.specs.Effective.{effective, value_for}
 use Rattle.pl_model.specs.Places.{place_in}
 use Rattle.pl_cascade.specs.Slots.{is_object_slot, place_of, step_of}
 use Rattle.pl_cascade.specs.Cascade.{closure_of}
-use Rattle.pl_cascade.specs.Direct.{differ, option_touches, options_touch, settings_touch, shape_differs, instances_differ, object_touched, print_touched, print_is_direct, is_direct}
+use Rattle.pl_cascade.specs.Direct.{option_touches, options_touch, settings_touch, shape_differs, instances_differ, object_touched, print_touched, print_is_direct, is_direct}
 use Rattle.pl_cascade.specs.Touched.{is_touched}
 use Rattle.pl_cascade.proofs.Codes.{same_unless_differ, none_differs}
 use Rattle.pl_cascade.proofs.Searches.{any_next, next_number, or-false}
-use Rattle.pl_cascade.proofs.Arrows.{step_below, step_above}
+use Rattle.pl_cascade.proofs.Arrows.{step_above}
 use Rattle.pl_cascade.proofs.Closures.{same_closures, closure_below}
 
 -- ---- one option

@@ -1,10 +1,10 @@
 -- Laws of the cascade.
-use Rattle.std.proofs.Common.{◌≡◌, ◌≢◌, ℕ, ◌+◌, ◌-◌, ◌/◌, ◌%◌, ◌<◌, ◌≤◌, Bool, true, false, nat_lt, List, Option, Some, None, refl, ap, sym, ◌∙◌, arith, inl, inr}
+use Rattle.std.proofs.Common.{◌≡◌, ◌≢◌, ℕ, ◌-◌, ◌/◌, ◌%◌, ◌<◌, ◌≤◌, Bool, true, false, nat_lt, Option, Some, None, refl, ap, sym, ◌∙◌, arith, inl, inr}
 use Rattle.std.specs.Prelude.{◌==◌, ◌&&◌, ◌||◌, not, if◌then◌else◌, is_some}
 use Rattle.std.specs.Coded.{coded_list, coded_option}
 use Rattle.std.specs.FinMap.{get}
-use Rattle.std.specs.List.{All, list_any, range_with_len}
-use Rattle.std.proofs.lemmas.Bool.{and_parts, and_from, and_left, and_right, or_from, cases_Bool, cases_lt, both_ways, true≢false, lt-ltb, le-ltb, ltb-true, ltb-false, eq-eqb, eqb-true, not_from_true, not_from_false, not-true, cond-true, cond-false, false_from_ne_true}
+use Rattle.std.specs.List.{range_with_len}
+use Rattle.std.proofs.lemmas.Bool.{and_parts, and_from, and_right, or_from, cases_Bool, cases_lt, both_ways, true≢false, lt-ltb, le-ltb, ltb-true, ltb-false, eq-eqb, eqb-true, not_from_true, cond-true, cond-false, false_from_ne_true}
 use Rattle.std.proofs.lemmas.Bool.Decides.{nat_tests}
 use Rattle.pl_stl.specs.contracts.mesh.Facet.{the_row as facet_row}
 use Rattle.pl_keys.specs.contracts.value.Value.{the_row as value_row}
@@ -19,12 +19,12 @@ use Rattle.pl_model.specs.Contents.{Contents}
 use Rattle.pl_model.specs.Effective.{value_for}
 use Rattle.pl_model.specs.Places.{place_in}
 use Rattle.pl_cascade.specs.Slots.{is_object_slot, place_of, step_of, print_slot, is_one_of, is_present, needs_here, needs_of_ground, print_needs, needs_slot}
-use Rattle.pl_cascade.specs.Cascade.{takes, closure_of}
-use Rattle.pl_cascade.specs.Direct.{option_touches, options_touch, settings_touch, shape_differs, instances_differ, object_touched, print_touched, print_is_direct, is_direct}
+use Rattle.pl_cascade.specs.Cascade.{takes}
+use Rattle.pl_cascade.specs.Direct.{option_touches, options_touch, settings_touch, object_touched, print_touched, print_is_direct, is_direct}
 use Rattle.pl_cascade.specs.Touched.{is_touched}
 use Rattle.pl_cascade.proofs.Codes.{none_differs}
-use Rattle.pl_cascade.proofs.Searches.{some_below, none_passes}
-use Rattle.pl_cascade.proofs.Arrows.{step_takes, at_pairs, implied, IsTaken, is_taken, taken_below, step_below, step_above}
+use Rattle.pl_cascade.proofs.Searches.{none_passes}
+use Rattle.pl_cascade.proofs.Arrows.{step_takes, at_pairs, implied, is_taken, taken_below, step_below, step_above}
 use Rattle.pl_cascade.proofs.Closures.{closure_member, closure_taken, is_closure}
 use Rattle.pl_cascade.proofs.Untouched.{same_places}
 

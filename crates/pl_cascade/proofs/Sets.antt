@@ -1,13 +1,13 @@
 -- Loops over places and steps that build sets of slots.
-use Rattle.std.proofs.Common.{◌≡◌, ℕ, ◌+◌, ◌*◌, ◌-◌, ◌/◌, ◌%◌, ◌<◌, ◌≤◌, Bool, true, false, nat_lt, List, refl, ap, sym, ◌∙◌, arith, inl, inr}
+use Rattle.std.proofs.Common.{◌≡◌, ℕ, ◌+◌, ◌-◌, ◌/◌, ◌%◌, ◌<◌, ◌≤◌, Bool, true, false, nat_lt, refl, ap, sym, ◌∙◌, arith, inl, inr}
 use Rattle.std.specs.Prelude.{◌==◌, ◌&&◌, ◌||◌, not, if◌then◌else◌, is_some, Option, Some, None}
-use Rattle.std.proofs.lemmas.Bool.{and_parts, and_from, and_left, and_right, cases_Bool, both_ways, eq-eqb, eqb-true, lt-ltb, le-ltb, ltb-true, ltb-false, not-true, not_from_false, cond-true, cond-false}
+use Rattle.std.proofs.lemmas.Bool.{and_parts, and_from, and_left, and_right, cases_Bool, eq-eqb, eqb-true, lt-ltb, le-ltb, ltb-false, not-true, not_from_false, cond-true, cond-false}
 use Rattle.std.proofs.lemmas.Bool.Decides.{nat_tests}
 use Rattle.std.specs.Option.{option_copied}
 use denote.Bor.{Bor}
 use Rattle.pl_model.specs.Contents.{Contents}
 use Rattle.pl_model.specs.Places.{place_in}
-use Rattle.pl_cascade.specs.Slots.{is_object_slot, place_of, step_of, object_slot, print_slot, is_one_of, is_present}
+use Rattle.pl_cascade.specs.Slots.{is_object_slot, place_of, step_of, object_slot, print_slot, is_one_of}
 use Rattle.pl_cascade.specs.Cascade.{takes, takes_here, takes_in_print}
 use Rattle.pl_cascade.proofs.Searches.{equal_truths, next_number, below_all, or-false}
 use Rattle.pl_cascade.proofs.Arrows.{is_object, is_print, place_of-object, step_of-object, step_of-print, step_below, step_above}

@@ -1,14 +1,13 @@
 -- What is equal in two plates where a slot is not touched.
-use Rattle.std.proofs.Common.{◌≡◌, ℕ, ◌<◌, ◌≤◌, inl, inr, Bool, true, false, Option, Some, None, List, refl, ap, sym, ◌∙◌, arith}
-use Rattle.std.specs.Prelude.{◌==◌, ◌&&◌, ◌||◌, not, nat_lt, is_some}
+use Rattle.std.proofs.Common.{◌≡◌, ℕ, ◌<◌, ◌≤◌, inl, inr, Bool, true, false, Option, Some, None, refl, ap, sym, ◌∙◌, arith}
+use Rattle.std.specs.Prelude.{◌==◌, ◌&&◌, ◌||◌, not, is_some}
 use Rattle.std.specs.FinMap.{get}
 use Rattle.std.specs.Coded.{coded_list, coded_option}
-use Rattle.std.specs.List.{list_any, range_with_len}
 use Rattle.std.proofs.lemmas.Bool.{and_parts, or_parts, or_cases, and_from, both_ways, true≢false, false_from_ne_true, lt-ltb, agree_below_at, eqb-true, cases_lt, not-false, cond-true, cond-false}
 use Rattle.pl_stl.specs.contracts.mesh.Facet.{the_row as facet_row}
 use Rattle.pl_keys.specs.contracts.value.Value.{the_row as value_row}
 use Rattle.pl_keys.specs.declared.key.Key.{Key}
-use Rattle.pl_keys.specs.Keys.{keys, is_object_key}
+use Rattle.pl_keys.specs.Keys.{is_object_key}
 use Rattle.pl_keys.specs.Table.{touches}
 use Rattle.pl_keys.specs.Steps as steps
 use Rattle.pl_options.specs.KeyMap.{KeyMap}
@@ -17,9 +16,9 @@ use Rattle.pl_model.specs.declared.object.Object.{Object}
 use Rattle.pl_model.specs.Contents.{Contents}
 use Rattle.pl_model.specs.Effective.{value_for}
 use Rattle.pl_model.specs.Places.{place_in}
-use Rattle.pl_cascade.specs.Slots.{is_object_slot, place_of, step_of, object_slot, print_slot}
+use Rattle.pl_cascade.specs.Slots.{place_of, step_of, object_slot, print_slot}
 use Rattle.pl_cascade.specs.Cascade.{takes, closure_of}
-use Rattle.pl_cascade.specs.Direct.{differ, option_touches, options_touch, shape_differs, instances_differ, settings_touch, object_touched, print_touched, print_is_direct, is_direct}
+use Rattle.pl_cascade.specs.Direct.{option_touches, options_touch, shape_differs, instances_differ, settings_touch, object_touched, print_touched, print_is_direct, is_direct}
 use Rattle.pl_cascade.specs.Touched.{is_touched}
 use Rattle.pl_cascade.proofs.Codes.{same_unless_differ}
 use Rattle.pl_cascade.proofs.Searches.{none_below, none_of_keys}

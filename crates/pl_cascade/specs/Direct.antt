@@ -1,8 +1,8 @@
 -- What differs between two plates, before the cascade.
-use Rattle.std.specs.Prelude.{ℕ, Bool, true, false, not, ◌==◌, ◌&&◌, ◌||◌, if◌then◌else◌, List, Option, Some, None}
+use Rattle.std.specs.Prelude.{ℕ, Bool, true, false, not, ◌==◌, ◌&&◌, ◌||◌, if◌then◌else◌, Option, Some, None}
 use Rattle.std.specs.List.{list_any, range_with_len}
 use Rattle.std.specs.FinMap.{get}
-use Rattle.std.specs.Coded.{Coded, coded_option, coded_list, coded_ℕ}
+use Rattle.std.specs.Coded.{Coded, coded_option, coded_list}
 use Rattle.pl_stl.specs.contracts.mesh.Facet.{the_row as facet_row}
 use Rattle.pl_keys.specs.contracts.value.Value.{the_row as value_row}
 use Rattle.pl_keys.specs.declared.key.Key.{Key}

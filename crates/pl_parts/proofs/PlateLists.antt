@@ -1,5 +1,5 @@
 -- The print of the lists of a plate.
-use Rattle.std.proofs.Common.{◌≡◌, ℤ, ℕ, zero, suc, pos, ◌<◌, ◌≤◌, ◌^◌, Bool, List, [], ◌∷◌, length, map, filter, slice_index_or, Option, Some, None, refl, sym, subst, ap, ◌∙◌, arith}
+use Rattle.std.proofs.Common.{◌≡◌, ℕ, pos, ◌<◌, ◌≤◌, ◌^◌, [], length, filter, slice_index_or, Option, Some, None, refl, sym, subst, ap, ◌∙◌, arith}
 use Rattle.std.specs.Prelude.{is_some}
 use Rattle.std.specs.Option.{option_map, option_map_or}
 use Rattle.std.specs.List.{range_with_len}
@@ -7,7 +7,6 @@ use Rattle.std.proofs.Math.ListN.{get_or-map}
 use Rattle.std.proofs.lemmas.List.{length-map}
 use Rattle.pl_units.specs.declared.Nm.{Nm}
 use Rattle.pl_gcode.specs.IsPrint.{IsPrint}
-use Rattle.pl_gcode.specs.Print.{Print}
 use Rattle.pl_gcode.specs.SettingsOf.{settings_of}
 use Rattle.pl_layers.specs.Heights.{layer_height_of}
 use Rattle.pl_model.specs.declared.object.Object.{Object}

@@ -12,17 +12,22 @@ use pl_tower::Tools;
 use pl_units::Nm;
 use std::marker::Model;
 
-/// What a print consists of: the configuration, the heights, ascending, in nanometres above the plate, the tools of each,
-/// the tower's strokes, in half cells of the bed, of each change of tools that a height may have, the loops of skirt and
-/// brim, in cells of the bed, and what the object of each place is printed as.
+/// What a print consists of, in lists that stand elsewhere.
 #[derive(Drop)]
 pub struct PrintLists<'a> {
+    /// The configuration, of which the G-code speaks.
     pub config: &'a Config,
+    /// The heights, ascending, in nanometres above the plate.
     pub heights: &'a [Nm],
+    /// The tools of each height, in order.
     pub tools: &'a [Tools],
+    /// The tower's strokes of each change of tools that a height may have, in half cells of the bed.
     pub blocks: &'a [Strokes],
+    /// The loops of the skirt, in cells of the bed.
     pub skirt: &'a [Loop],
+    /// The loops of the brim, in cells of the bed.
     pub brim: &'a [Loop],
+    /// What the object of each place is printed as, where there is one.
     pub objects: Vec<Option<PlaceParts<'a>>>,
 }
 

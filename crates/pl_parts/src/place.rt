@@ -10,15 +10,20 @@ use pl_steps::{Loops, Strokes};
 use pl_units::Nm;
 use std::marker::Model;
 
-/// What the object of a place is printed as: the bed cell of each instance, its layers, and of each layer, from the lowest
-/// on, the loops in cells and the strokes in half cells of the object.
+/// What the object of a place is printed as; the layers from the lowest on.
 #[derive(Drop)]
 pub struct PlaceParts<'a> {
+    /// The bed cell of each instance, in order.
     pub corners: &'a [Corner],
+    /// The tool, and the heights and number of the layers.
     pub layers: &'a ObjectLayers,
+    /// The loops of each layer's perimeters, in cells of the object.
     pub loops: &'a [Loops],
+    /// The strokes that fill each layer, in half cells of the object.
     pub infill: &'a [Strokes],
+    /// The strokes that iron each layer, in half cells of the object.
     pub ironing: &'a [Strokes],
+    /// The strokes that support each layer, in half cells of the object.
     pub support: &'a [Strokes],
 }
 

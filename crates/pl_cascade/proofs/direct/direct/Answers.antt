@@ -1,6 +1,5 @@
-use Rattle.std.proofs.Common.{arith, ◌≡◌, ◌∙◌, ap}
+use Rattle.std.proofs.Common.{arith, ◌∙◌}
 use Rattle.std.specs.FinMap.{get}
-use Rattle.pl_options.specs.KeyMap.{KeyMap}
 use Rattle.pl_keys.specs.Steps as steps
 use Rattle.pl_cascade.specs.Slots.{step_of}
 use Rattle.pl_cascade.specs.Direct.{settings_touch}

@@ -1,5 +1,4 @@
 use Rattle.std.proofs.lemmas.Bool.{both_ways}
-use Rattle.pl_keys.specs.Steps.{has}
 use Rattle.pl_model.specs.Effective.{effective}
 use Rattle.pl_cascade.proofs.Differing.{same_touches, other_touches}
 use Rattle.pl_cascade.proofs.options.option_steps.Goals as goal

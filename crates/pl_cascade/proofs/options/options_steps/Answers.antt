@@ -1,5 +1,5 @@
 use Rattle.std.proofs.Common.{◌∙◌}
-use Rattle.std.specs.Prelude.{◌&&◌, not}
+use Rattle.std.specs.Prelude.{◌&&◌}
 use Rattle.pl_keys.specs.Keys.{is_object_key}
 use Rattle.pl_model.specs.Effective.{effective}
 use Rattle.pl_cascade.specs.Direct.{option_touches, options_touch}

@@ -1,5 +1,4 @@
 use Rattle.std.proofs.lemmas.Bool.{both_ways}
-use Rattle.pl_keys.specs.Steps.{has}
 use Rattle.std.specs.FinMap.{get}
 use Rattle.pl_cascade.proofs.Differing.{same_touches, other_touches}
 use Rattle.pl_cascade.proofs.options.setting_steps.Goals as goal
