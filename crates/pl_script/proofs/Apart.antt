@@ -13,6 +13,7 @@ use Rattle.pl_edit.specs.Data.{Data}
 use Rattle.pl_script.specs.Forms.{is_name}
 use Rattle.pl_script.specs.Orders.{block_named}
 use Rattle.pl_script.specs.Kept.{IsBlocks, IsKeyed}
+use Rattle.pl_script.proofs.Keeping.{found_passes}
 
 named_before : (blocks : List Data) (block : Data) (name : List ℕ) (found : Data) → block_named blocks name ≡ Some found → block_named (blocks ++ block ∷ []) name ≡ Some found
 named_before blocks block name found e = find-append (λ b. bytes_eq b.name name) blocks (block ∷ []) ∙ ap (λ o. option_or o (find (λ b. bytes_eq b.name name) (block ∷ []))) e
@@ -36,19 +37,11 @@ blocks_added blocks block h new named = record {
 
 -- a block that is found by a name has that name
 pub found_named : (blocks : List Data) (name : List ℕ) → IfSome (block_named blocks name) (λ block. block_named blocks block.name ≡ Some block)
-found_named blocks name = by_name (block_named blocks name) refl (is_named blocks)
+found_named blocks name = by (block_named blocks name) refl (found_passes (λ block. bytes_eq block.name name) blocks)
   where
-    is_named : (bs : List Data) → IfSome (block_named bs name) (λ block. block.name ≡ name)
-    is_named [] = tt
-    is_named (b ∷ bs) =
-        elim (cases_Bool (bytes_eq b.name name)) [
-          | inl same ↦ subst (λ o. IfSome o (λ block. block.name ≡ name)) (sym (cond-true (bytes_eq b.name name) _ _ same)) ((bytes_eq-Decides b.name name).0 same)
-          | inr other ↦ subst (λ o. IfSome o (λ block. block.name ≡ name)) (sym (cond-false (bytes_eq b.name name) _ _ other)) (is_named bs)
-        ]
-
-    by_name : (o : Option Data) → block_named blocks name ≡ o → IfSome o (λ block. block.name ≡ name) → IfSome o (λ block. block_named blocks block.name ≡ Some block)
-    by_name None e h = tt
-    by_name (Some block) e h = ap (block_named blocks) h ∙ e
+    by : (o : Option Data) → block_named blocks name ≡ o → IfSome o (λ block. bytes_eq block.name name ≡ true) → IfSome o (λ block. block_named blocks block.name ≡ Some block)
+    by None e h = tt
+    by (Some block) e h = ap (block_named blocks) ((bytes_eq-Decides block.name name).0 h) ∙ e
 
 -- a map whose keys are the names of its blocks
 

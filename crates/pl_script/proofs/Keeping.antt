@@ -2,13 +2,15 @@
 use Rattle.std.proofs.Common.{◌≡◌, ◌≢◌, ◌==◌, ℕ, ◌-◌, Bool, true, false, if◌then◌else◌, Option, Some, None, Result, Ok, Err, List, [], ◌∷◌, length, take, All, inl, inr, refl, sym, subst, arith}
 use Rattle.std.specs.Result.{IfOk}
 use Rattle.std.specs.Option.{IfSome, option_map, option_map_or, option_and_then, ok_or}
-use Rattle.std.specs.List.{slice_split, onto_first, filter, prefix_len, suffix_len}
+use Rattle.std.specs.List.{slice_split, onto_first, filter, find, prefix_len, suffix_len}
 use Rattle.std.proofs.lemmas.Bool.{cases_Bool, cond-true, cond-false}
 use Rattle.std.proofs.lemmas.Bool.Decides.{nat_tests}
 use Rattle.std.proofs.lemmas.List.Splits.{slice_split-cons_yes, slice_split-cons_no}
 use Rattle.std.proofs.lemmas.List.Elements.{All-nil, All-cons, All-head, All-tail, All-drop, All-take}
+use Rattle.pl_script.specs.declared.fault.ScriptFault.{ScriptFault}
 use Rattle.pl_script.specs.Outcomes.{and_then, mapped}
 use Rattle.pl_script.specs.Lines.{is_blank, is_letter, is_word, words_of, after_blanks, after_word, trimmed, line_text}
+use Rattle.pl_script.specs.Early.{unless}
 use Rattle.pl_script.specs.Kept.{IsInLine, IsWord}
 
 -- what follows a part that holds
@@ -51,6 +53,20 @@ some_fact P o x e h = subst (λ r. IfSome r P) e h
 
 pub ok_fact : {X E : Type 0} (P : X → Type 0) (said : Result X E) (x : X) → said ≡ Ok x → IfOk said P → P x
 ok_fact P said x e h = subst (λ r. IfOk r P) e h
+
+-- where there is no fault
+pub ok_unless : {X : Type 0} (P : X → Type 0) (fault : Option ScriptFault) (said : Result X ScriptFault) → (fault ≡ None → IfOk said P) → IfOk (unless fault said) P
+ok_unless P None said h = h refl
+ok_unless P (Some fault) said h = tt
+
+-- what is found passes the test
+pub found_passes : {X : Type 0} (p : X → Bool) (xs : List X) → IfSome (find p xs) (λ x. p x ≡ true)
+found_passes p [] = tt
+found_passes p (x ∷ xs) = by (p x) refl (found_passes p xs)
+  where
+    by : (b : Bool) → p x ≡ b → IfSome (find p xs) (λ y. p y ≡ true) → IfSome (if b then Some x else find p xs) (λ y. p y ≡ true)
+    by true passes rest = passes
+    by false fails rest = rest
 
 -- the parts of a list have what all its elements have, and none that passes the test
 

@@ -2,8 +2,8 @@ pub mod Parted
 pub mod FirstWord
 pub mod Wholes
 pub mod Stopped
-pub mod Apart
 pub mod Keeping
+pub mod Apart
 pub mod KeptOrders
 pub mod KeptLines
 pub mod Bodies
@@ -12,3 +12,4 @@ pub mod Steps
 pub mod Resumed
 pub mod Texts
 pub mod OneReading
+pub mod OfFirst

@@ -16,7 +16,7 @@ mod verb;
 mod words;
 
 pub use fault::{LineStop, ScriptFault};
-pub use laws::script_texts_have_one_reading;
+pub use laws::{script_texts_have_one_reading, scripts_are_of_the_first_session};
 pub use lines::LinesLeft;
 pub use read::{block_after, data_name, is_data, is_head, read_script};
 pub use script::{Blocks, Line, Lines, Script};

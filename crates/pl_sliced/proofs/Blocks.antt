@@ -10,7 +10,7 @@ use Rattle.pl_script.specs.declared.fault.ScriptFault.TheVariants.{BadLine, Same
 use Rattle.pl_script.specs.declared.lines.LinesLeft.{LinesLeft}
 use Rattle.pl_script.specs.Outcomes.{and_then, mapped}
 use Rattle.pl_script.specs.Lines.{line_words, is_passed_over}
-use Rattle.pl_script.specs.Script.{Breach, at, is_block_end, is_data, data_name, body_of, with_ends, block_after}
+use Rattle.pl_script.specs.Script.{at, is_block_end, is_data, data_name, body_of, with_ends, block_after}
 use Rattle.pl_script.specs.Reading.{lines_left, number_left, IsAfterBlock}
 use Rattle.pl_sliced.specs.declared.text.Kind.{Kind}
 use Rattle.pl_sliced.specs.declared.text.Found.{Found}

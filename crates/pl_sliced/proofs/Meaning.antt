@@ -1,9 +1,9 @@
 -- Each text means one plate that can be printed, or has one first fault.
-use Rattle.std.proofs.Common.{◌≡◌, ◌⊎◌, inl, inr, ℕ, ◌+◌, Option, Some, None, Result, Ok, Err, List, [], length, codes, position, refl, sym, ap, subst, ◌∙◌}
+use Rattle.std.proofs.Common.{◌≡◌, ◌⊎◌, inl, inr, ℕ, ◌+◌, Option, Some, None, Result, Ok, Err, List, length, codes, refl, sym, ap, subst, ◌∙◌}
 use Rattle.std.specs.Result.{IfOk, MatchResult}
 use Rattle.pl_units.specs.declared.Refusal.{Refusal}
 use Rattle.pl_units.specs.declared.Refusal.TheVariants.{Fault, NoMemory}
-use Rattle.std.specs.Option.{option_map_or, ok_or, is_none}
+use Rattle.std.specs.Option.{option_map_or}
 use Rattle.pl_stl.specs.declared.mesh.Facet.{Facet}
 use Rattle.pl_stl.specs.declared.fault.StlFault.{StlFault}
 use Rattle.pl_stl.specs.Reading.{Breach, mesh_of}
@@ -18,9 +18,8 @@ use Rattle.pl_edit.specs.declared.edit.Edit.TheVariants.{Load, Ini}
 use Rattle.pl_edit.specs.declared.reply.EditReply.{EditReply}
 use Rattle.pl_edit.specs.declared.reply.EditReply.TheVariants as reply
 use Rattle.pl_edit.specs.declared.reply.EditRefusal.{EditRefusal}
-use Rattle.pl_edit.specs.declared.reply.EditRefusal.TheVariants.{BadStl, BadIni, FullObjects}
+use Rattle.pl_edit.specs.declared.reply.EditRefusal.TheVariants.{BadStl, BadIni}
 use Rattle.pl_model.specs.Contents.{Contents, blank, with_place, fresh}
-use Rattle.pl_model.specs.Editing.{IsEdited}
 use Rattle.pl_model.specs.Finding.{mesh_read, ini_read, free_place}
 use Rattle.pl_model.specs.Outcomes.{Outcome, given, plate_after, reply_of, edited, edit_reply}
 use Rattle.pl_model.specs.Problem.{problem_of}
@@ -29,7 +28,6 @@ use Rattle.pl_model.proofs.Edits.{told_computed, same_told}
 use Rattle.pl_model.proofs.Plates.{no_places}
 use Rattle.pl_model.proofs.Printing as printing
 use Rattle.pl_model.proofs.Readings.{breach_read, read_breach}
-use Rattle.pl_script.specs.declared.fault.ScriptFault.{ScriptFault}
 use Rattle.pl_script.specs.Outcomes.{and_then}
 use Rattle.pl_script.specs.Lines.{lines_of}
 use Rattle.pl_script.specs.Script as script
@@ -39,7 +37,7 @@ use Rattle.pl_sliced.specs.declared.text.SliceText.{SliceText}
 use Rattle.pl_sliced.specs.declared.fault.SliceFault.{SliceFault}
 use Rattle.pl_sliced.specs.declared.fault.SliceFault.TheVariants as fault
 use Rattle.pl_sliced.specs.Text.{slice_text_of}
-use Rattle.pl_sliced.specs.Grammar.{IsSliceText, IsFirstBreach}
+use Rattle.pl_sliced.specs.Grammar.{IsSliceText}
 use Rattle.pl_sliced.specs.Plates.{SliceBreach, broken, of_script, block_fault, made, configured, loaded, sound, plate_of, sliced_of}
 use Rattle.pl_sliced.specs.Slicing.{IsConfigured, none, put, IsLoaded, IsSliced, IsFirstFault, line, settings, mesh, problem}
 use Rattle.pl_sliced.specs.Reading.{Refuses}

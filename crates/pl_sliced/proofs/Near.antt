@@ -1,5 +1,5 @@
 -- Breaches of blocks stand within them.
-use Rattle.std.proofs.Common.{◌≡◌, ℕ, ◌+◌, ◌-◌, ◌==◌, ◌≤◌, ◌^◌, Bool, true, false, Option, Some, None, Result, Ok, Err, List, [], ◌∷◌, ◌++◌, length, map, take, All, refl, sym, ap, subst, ◌∙◌, inl, inr, arith}
+use Rattle.std.proofs.Common.{ℕ, ◌+◌, ◌-◌, ◌==◌, ◌≤◌, ◌^◌, Option, Some, None, Result, Ok, Err, List, [], ◌∷◌, ◌++◌, length, map, All, sym, subst, ◌∙◌, inl, inr, arith}
 use Rattle.std.specs.List.{sum_by, position}
 use Rattle.std.specs.Option.{IfSome, ok_or, is_none}
 use Rattle.std.proofs.lemmas.Bool.{cases_Bool, cond-true, cond-false}

@@ -1,5 +1,5 @@
 -- Each text has one reading: the blocks of its lines, or their first breach.
-use Rattle.std.proofs.Common.{◌≡◌, ℕ, zero, suc, ◌+◌, ◌≤◌, nat_lt, take, Bool, true, false, Option, Some, None, Result, Ok, Err, List, [], ◌∷◌, ◌++◌, length, All, inl, inr, refl, sym, ap, subst, ◌∙◌, append_assoc, append-nil, arith}
+use Rattle.std.proofs.Common.{◌≡◌, ℕ, zero, suc, ◌+◌, ◌≤◌, nat_lt, take, true, false, Option, Some, None, Result, Ok, Err, List, [], ◌∷◌, ◌++◌, length, All, inl, inr, refl, sym, ap, subst, ◌∙◌, append_assoc, append-nil, arith}
 use Rattle.std.specs.Result.{MatchResult}
 use Rattle.std.specs.List.{position_or_len}
 use Rattle.std.specs.Option.{option_map, ok_or}
@@ -11,7 +11,7 @@ use Rattle.pl_edit.specs.Data.{Data}
 use Rattle.pl_script.specs.declared.fault.ScriptFault.{ScriptFault}
 use Rattle.pl_script.specs.declared.fault.ScriptFault.TheVariants.{NoHead, BadLine, SameData, CutData, NoData}
 use Rattle.pl_script.specs.Lines.{line_words}
-use Rattle.pl_script.specs.Script.{Breach, breach, is_block_end, is_data, data_name, with_ends, body_of, block_after, is_head}
+use Rattle.pl_script.specs.Script.{breach, is_block_end, is_data, data_name, with_ends, body_of, block_after, is_head}
 use Rattle.pl_script.specs.Grammar.{counts}
 use Rattle.pl_script.proofs.OneReading.{named_found}
 use Rattle.pl_script.proofs.OneReading as script
@@ -19,7 +19,7 @@ use Rattle.pl_sliced.specs.declared.text.Kind.{Kind}
 use Rattle.pl_sliced.specs.declared.text.Part.{Part}
 use Rattle.pl_sliced.specs.declared.text.Found.{Found}
 use Rattle.pl_sliced.specs.declared.text.SliceText.{SliceText}
-use Rattle.pl_sliced.specs.Text.{kind_of, nothing, part_of, with_part, slice_text_in}
+use Rattle.pl_sliced.specs.Text.{kind_of, nothing, part_of, slice_text_in}
 use Rattle.pl_sliced.specs.Grammar.{IsBeginning, head, passed, block, IsSliceText, IsFault, no_block, bad_name, other_name, same, cut, IsFirstBreach, no_lines, no_head, bad_line, no_mesh}
 use Rattle.pl_sliced.proofs.Texts.{text_read, breach_named}
 

@@ -1,5 +1,5 @@
 -- Reading goes on behind the lines of a text for slicing, and stops at a first breach.
-use Rattle.std.proofs.Common.{◌≡◌, ℕ, zero, suc, ◌+◌, Bool, true, false, if◌then◌else◌, Option, Some, None, is_some, Result, Ok, Err, List, [], ◌∷◌, ◌++◌, length, drop, take, All, refl, sym, ap, ◌∙◌, append_assoc, append-nil, arith, length-append, nat_lt}
+use Rattle.std.proofs.Common.{◌≡◌, ℕ, zero, suc, ◌+◌, true, false, if◌then◌else◌, Option, Some, None, is_some, Result, Ok, Err, List, [], ◌∷◌, ◌++◌, length, drop, take, All, refl, sym, ap, ◌∙◌, append_assoc, append-nil, arith, length-append, nat_lt}
 use Rattle.std.specs.List.{position_or_len}
 use Rattle.std.specs.Option.{option_map, option_map_or, ok_or}
 use Rattle.std.proofs.lemmas.Bool.{cond-true, cond-false}
@@ -10,7 +10,7 @@ use Rattle.pl_script.specs.declared.fault.ScriptFault.TheVariants.{BadLine, Same
 use Rattle.pl_script.specs.Outcomes.{and_then, mapped}
 use Rattle.pl_script.specs.Lines.{line_words}
 use Rattle.pl_script.specs.Script.{Breach, breach, is_block_end, is_data, data_name, body_of, with_ends, block_after, is_head}
-use Rattle.pl_script.specs.Grammar.{counts, IsBlock}
+use Rattle.pl_script.specs.Grammar.{IsBlock}
 use Rattle.pl_script.proofs.BlockBodies.{first_end, drop_body, no_end}
 use Rattle.pl_script.proofs.Resumed.{counts_is, passed_is, data_counts}
 use Rattle.pl_script.proofs.Texts.{body_is, part_first, longer}

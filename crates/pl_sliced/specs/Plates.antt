@@ -1,6 +1,6 @@
 -- The plate that a text for slicing means, or the first fault.
 use Rattle.std.specs.Prelude.{ℕ, ◌+◌, Option, Some, None, Result, Ok, Err, List, codes}
-use Rattle.std.specs.Option.{option_map, option_map_or}
+use Rattle.std.specs.Option.{option_map_or}
 use Rattle.pl_edit.specs.declared.edit.Edit.{Edit}
 use Rattle.pl_edit.specs.declared.edit.Edit.TheVariants.{Load, Ini}
 use Rattle.pl_edit.specs.declared.reply.EditReply.{EditReply}

@@ -1,5 +1,5 @@
 -- What a reader has found, and what it answers.
-use Rattle.std.specs.Prelude.{◌≡◌, ◌≤◌, ◌^◌, ◌+◌, Result, Ok, Err, length}
+use Rattle.std.specs.Prelude.{◌≡◌, ◌≤◌, ◌^◌, ◌+◌, Result, Err, length}
 use Rattle.std.specs.Option.{IfSome}
 use Rattle.pl_units.specs.declared.Refusal.{Refusal}
 use Rattle.pl_units.specs.declared.Refusal.TheVariants.{Fault, NoMemory}

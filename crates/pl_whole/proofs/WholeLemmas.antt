@@ -1,13 +1,10 @@
 -- The lists of the print of a plate, and its text.
 use Rattle.std.proofs.Common.{◌≡◌, ℕ, ◌<◌, ◌≤◌, ◌^◌, List, length, map, Option, sym, subst, ap, ◌∙◌, arith}
 use Rattle.std.specs.Option.{option_map}
-use Rattle.pl_units.specs.declared.Nm.{Nm}
-use Rattle.pl_grid.specs.declared.stroke.Corner.{Corner}
-use Rattle.pl_grid.specs.declared.stroke.Stroke.{Stroke}
 use Rattle.pl_options.specs.KeyMap.{KeyMap}
 use Rattle.pl_gcode.specs.SettingsOf.{settings_of}
 use Rattle.pl_model.specs.Contents.{Contents}
-use Rattle.pl_values.specs.PrintValues.{places_of, heights_of, tools_of, blocks_of, skirt_for, brim_for}
+use Rattle.pl_values.specs.PrintValues.{places_of, heights_of}
 use Rattle.pl_values.specs.Ranges.{IsInRange}
 use Rattle.pl_values.specs.Whole.{print_of}
 use Rattle.pl_parts.specs.Parts.{ObjectData, PrintData, IsPrintData, filled_places, print_from, object_data, data_of}

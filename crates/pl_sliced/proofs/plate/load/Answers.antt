@@ -1,4 +1,3 @@
-use Rattle.std.proofs.Common.{codes, sym, subst}
 use Rattle.pl_sliced.proofs.Near.{mesh_few}
 use Rattle.pl_sliced.proofs.plate.load.Goals as goal
 
