@@ -4,7 +4,8 @@ use Rattle.pl_units.specs.declared.Refusal.{Refusal}
 use Rattle.pl_units.specs.declared.Refusal.TheVariants.{Fault}
 use Rattle.pl_ports.specs.declared.ends.ReadStop.{ReadStop}
 use Rattle.pl_script.specs.declared.fault.ScriptFault.{ScriptFault}
-use Rattle.pl_plater.specs.declared.status.TopFault.TheVariants.{Script}
+use Rattle.pl_sliced.specs.declared.fault.SliceFault.{SliceFault}
+use Rattle.pl_sliced.specs.declared.fault.SliceFault.TheVariants.{Script}
 use Rattle.pl_plater.specs.declared.status.Status.{Status}
 use Rattle.pl_plater.specs.declared.status.Status.TheVariants.{Done, Usage, Refused, ReadFault, WriteFault, NoMemory}
 
@@ -23,7 +24,7 @@ IsBeforeWriting (Refused line fault) = ⊤
 IsBeforeWriting ReadFault = ⊤
 IsBeforeWriting _ = ⊥
 
--- the answers that come once a script is run
+-- the answers that come once an input is read
 abbrev pub IsAfterReading : Status → Type 0
 IsAfterReading Done = ⊤
 IsAfterReading WriteFault = ⊤
@@ -31,9 +32,14 @@ IsAfterReading NoMemory = ⊤
 IsAfterReading _ = ⊥
 
 -- the status where a script was refused
-abbrev pub refusal_status : Refusal ScriptFault → Status
-refusal_status (Fault line fault) = Refused line (Script fault)
-refusal_status Refusal.NoMemory = NoMemory
+abbrev pub script_status : Refusal ScriptFault → Status
+script_status (Fault line fault) = Refused line (Script fault)
+script_status Refusal.NoMemory = NoMemory
+
+-- the status where a text for slicing was refused
+abbrev pub slice_status : Refusal SliceFault → Status
+slice_status (Fault line fault) = Refused line fault
+slice_status Refusal.NoMemory = NoMemory
 
 -- the status where reading stopped
 abbrev pub stop_status : ReadStop → Status

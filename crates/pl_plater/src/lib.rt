@@ -1,13 +1,22 @@
 //! The whole program as one call.
 #![tactic(auto)]
 
+#[cfg(test)]
+mod bodies;
 mod commands;
+#[cfg(test)]
+mod examples;
 mod run;
+mod slice;
+#[cfg(test)]
+mod slice_tests;
 pub mod status;
 #[cfg(test)]
 mod tests;
 mod top;
 mod words;
 
-pub use status::{Status, TopFault};
+pub use pl_sliced::SliceFault as TopFault;
+pub use slice::slice_once;
+pub use status::Status;
 pub use top::{LIMIT, plater};

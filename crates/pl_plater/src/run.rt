@@ -1,19 +1,29 @@
-//! Running a script.
-ghost use Rattle.std.specs.Prelude.{◌≡◌, IfOk, None};
+//! The command `run`.
+ghost use Rattle.std.specs.Prelude.{◌≡◌, ◌≢◌, ◌≤◌, ◌⊎◌, length, IfOk, IfSome, None};
+ghost use Rattle.std.specs.Io.KnownBytes.{IsAtEnd};
+ghost use Rattle.pl_ports.specs.Causes.{Rose, TookAtMost};
 ghost use Rattle.pl_session.specs.Complete.{IsComplete, runs_of};
 ghost use Rattle.pl_thin.specs.Thin.{thin_meaning};
+ghost use Rattle.pl_plater.specs.declared.words.Task.TheVariants as tasks;
 ghost use Rattle.pl_plater.specs.Commands.{unserved, session_commands};
+ghost use Rattle.pl_plater.specs.Status.{IsBeforeWriting, IsAfterReading, script_status};
+ghost use Rattle.pl_plater.specs.Headline.{limit, Answers, IsInput, EndsWell, Wrote, WroteFront, Writes, WritesFront};
 
-use crate::commands::served_commands;
-use pl_script::Script;
+use crate::TopFault;
+use crate::commands::{served_commands, unserved};
+use crate::status::Status;
+use crate::top::LIMIT;
+use pl_ports::{Sink, SinkStop, Source, read_all};
+use pl_script::{Script, ScriptFault, read_script};
 use pl_session::{Ended, run_session};
 use pl_thin::Thin;
-use pl_units::NoMemory;
+use pl_transcript::put_transcript;
+use pl_units::{NoMemory, Refusal};
 use std::alloc::Global;
 use std::thread::Threads;
 
-/// Runs the commands of a script, which are all served so far, on the calling thread.
-pub(crate) fn run_script<R: Threads + Sync>(
+// Runs the commands of a script, which are all served so far, on the calling thread.
+fn run_script<R: Threads + Sync>(
     rt: &R,
     alloc: Global,
     script: Script,
@@ -25,4 +35,88 @@ pub(crate) fn run_script<R: Threads + Sync>(
     let (_, _, lines) = script.into_parts();
     let commands = served_commands(alloc, lines)?;
     run_session::<Thin, R>(rt, alloc, commands)
+}
+
+// A refusal of the script.
+fn refused(refusal: &Refusal<ScriptFault>) -> Status
+    ensures { result ≡ script_status refusal.now }
+{
+    match refusal {
+        Refusal::Fault { line, fault } => Status::Refused {
+            line: *line,
+            fault: TopFault::Script(*fault),
+        },
+        Refusal::NoMemory => Status::NoMemory,
+    }
+}
+
+// Runs a script, whose commands are all served so far, and writes its transcript.
+fn run_and_write<R: Threads + Sync, K: Sink>(
+    rt: &R,
+    alloc: Global,
+    script: Script,
+    sink: &mut K,
+) -> Status
+    requires { unserved script.lines ≡ None }
+    ensures ended { IsAfterReading result }
+    ensures done { result ≡ Status.Done → Wrote tasks.Run script (K.held sink.old) (K.held sink.new) }
+    ensures write { result ≡ Status.WriteFault → Rose (K.faults sink.old) (K.faults sink.new) }
+    ensures front { (sink.new ≡ sink.old) ⊎ WroteFront tasks.Run script (K.held sink.old) (K.held sink.new) }
+{
+    let Ok(ended) = run_script(rt, alloc, script) else {
+        return Status::NoMemory;
+    };
+    match put_transcript(sink, &ended.journal, ended.runs) {
+        Ok(()) => Status::Done,
+        Err(SinkStop::Failed) => Status::WriteFault,
+        Err(SinkStop::NoMemory) => Status::NoMemory,
+    }
+}
+
+// The command, from the bytes that were read on.
+fn play<R: Threads + Sync, K: Sink>(rt: &R, alloc: Global, bytes: &[u8], sink: &mut K) -> Status
+    requires { length bytes.now ≤ limit }
+    ensures usage { result ≢ Status.Usage }
+    ensures read { result ≢ Status.ReadFault }
+    ensures answer { Answers tasks.Run result bytes.now }
+    ensures done { result ≡ Status.Done → Writes tasks.Run bytes.now (K.held sink.old) (K.held sink.new) }
+    ensures write { result ≡ Status.WriteFault → Rose (K.faults sink.old) (K.faults sink.new) }
+    ensures not_called { IsBeforeWriting result → sink.new ≡ sink.old }
+    ensures front { (sink.new ≡ sink.old) ⊎ WritesFront tasks.Run bytes.now (K.held sink.old) (K.held sink.new) }
+{
+    let script = match read_script(alloc, bytes) {
+        Ok(script) => script,
+        Err(refusal) => return refused(&refusal),
+    };
+    match unserved(script.lines().all()) {
+        Some(line) => Status::Refused {
+            line,
+            fault: TopFault::Script(ScriptFault::UnknownCommand),
+        },
+        None => run_and_write(rt, alloc, script, sink),
+    }
+}
+
+/// The command `run`: reads a script of at most 2^28 bytes to its end, runs it and writes its transcript.
+pub(crate) fn run<R: Threads + Sync, S: Source, K: Sink>(
+    rt: &R,
+    alloc: Global,
+    source: &mut S,
+    sink: &mut K,
+) -> Status
+    ensures usage { result ≢ Status.Usage }
+    ensures answer { IfSome (S.left source.old) (Answers tasks.Run result) }
+    ensures done { result ≡ Status.Done → IfSome (S.left source.old) (λ bytes. Writes tasks.Run bytes (K.held sink.old) (K.held sink.new)) }
+    ensures read_to_end { result ≡ Status.Done → IsAtEnd (S.left source.new) }
+    ensures read { result ≡ Status.ReadFault → Rose (S.faults source.old) (S.faults source.new) }
+    ensures read_first { result ≡ Status.ReadFault → TookAtMost (S.left source.old) (S.left source.new) limit }
+    ensures write { result ≡ Status.WriteFault → Rose (K.faults sink.old) (K.faults sink.new) }
+    ensures not_called { IsBeforeWriting result → sink.new ≡ sink.old }
+    ensures front { IfSome (S.left source.old) (λ bytes. (sink.new ≡ sink.old) ⊎ WritesFront tasks.Run bytes (K.held sink.old) (K.held sink.new)) }
+    ensures complete { IfSome (S.left source.old) (λ bytes. IsInput tasks.Run bytes → ¬ Rose (S.faults source.old) (S.faults source.new) → ¬ Rose (K.faults sink.old) (K.faults sink.new) → EndsWell result) }
+{
+    match read_all(alloc, source, LIMIT) {
+        Ok(text) => play(rt, alloc, text.bytes(), sink),
+        Err(stop) => Status::unread(&stop),
+    }
 }

@@ -1,16 +1,10 @@
 //! How a run of the program ends.
 ghost use Rattle.std.specs.Prelude.{◌≡◌};
-ghost use Rattle.pl_plater.specs.Status.{code_of};
+ghost use Rattle.pl_plater.specs.Status.{code_of, stop_status};
 
+use crate::TopFault;
+use pl_ports::ReadStop;
 use pl_script::ScriptFault;
-use thiserror::Error;
-
-/// Why the input is refused.
-#[derive(Clone, Copy, Debug, PartialEq, Eq, Error)]
-pub enum TopFault {
-    #[error("{0}")]
-    Script(ScriptFault),
-}
 
 /// How a call of the program ended.
 #[derive(Clone, Copy, Debug, PartialEq, Eq)]
@@ -41,6 +35,20 @@ impl Status {
             Status::ReadFault => 4,
             Status::WriteFault => 5,
             Status::NoMemory => 6,
+        }
+    }
+
+    /// How a run ends where the reading stopped.
+    pub(crate) fn unread(stop: &ReadStop) -> Status
+        ensures { result ≡ stop_status stop.now }
+    {
+        match stop {
+            ReadStop::Failed => Status::ReadFault,
+            ReadStop::TooLong => Status::Refused {
+                line: 0,
+                fault: TopFault::Script(ScriptFault::TooLong),
+            },
+            ReadStop::NoMemory => Status::NoMemory,
         }
     }
 }

@@ -225,7 +225,15 @@ fn command_10001_is_one_too_many(rt: HostRuntime) -> Result<(), Fail> {
 
 #[test]
 fn other_words_are_usage(rt: HostRuntime) -> Result<(), Fail> {
-    let table: [&[&str]; 4] = [&[], &["run", "x"], &["--help"], &["Run"]];
+    let table: [&[&str]; 7] = [
+        &[],
+        &["run", "x"],
+        &["slice", "x"],
+        &["run", "slice"],
+        &["--help"],
+        &["Run"],
+        &["slices"],
+    ];
     for list in &table {
         let words = words(rt.alloc(), list)?;
         let mut source = SteadySource::new(Text::copy_of(rt.alloc(), b"plater 1\n")?);

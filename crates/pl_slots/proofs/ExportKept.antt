@@ -72,8 +72,8 @@ module _ (a b : Contents) (calm : is_touched a b (print_slot steps.export) ≡ f
       let bottom = option_kept steps.prepare key.BottomSolidLayers refl refl refl x y pair in
       let density = option_kept steps.infill key.FillDensity refl refl refl x y pair in
       λ i.
-        infill_of (solid_of (sliced_kept x y pair i).planes (inner_kept k x y pair i) k (whole_in (top i)) (whole_in (bottom i)))
-          (sparse_of (sliced_kept x y pair i).planes (inner_kept k x y pair i) k (whole_in (top i)) (whole_in (bottom i))) k (whole_in (density i))
+      infill_of (solid_of (sliced_kept x y pair i).planes (inner_kept k x y pair i) k (whole_in (top i)) (whole_in (bottom i)))
+      (sparse_of (sliced_kept x y pair i).planes (inner_kept k x y pair i) k (whole_in (top i)) (whole_in (bottom i))) k (whole_in (density i))
 
   ironing_kept : (k : ℕ) (x y : Object) → IsPair x y → ironing_for a.config x k ≡ ironing_for b.config y k
   ironing_kept k x y pair =
@@ -89,14 +89,14 @@ module _ (a b : Contents) (calm : is_touched a b (print_slot steps.export) ≡ f
       ≡ of_place (sixteen b) p [] (λ object. slice_index_or (map (gives b.config object) (range_with_len 0 (layers_for b.config object))) k [])
   each_kept gives same p k =
       print.of_place_kept a b steps.export high low calm (λ config object. slice_index_or (map (gives config object) (range_with_len 0 (layers_for config object))) k [])
-        (λ x y pair i. slice_index_or (map (λ n. same n x y pair i) (range_with_len 0 (layers_kept x y pair i))) k []) p []
+      (λ x y pair i. slice_index_or (map (λ n. same n x y pair i) (range_with_len 0 (layers_kept x y pair i))) k []) p []
 
   -- the layer of a place at a height
   layer_kept : (p n : ℕ) → layer_at_height (sixteen a) p n ≡ layer_at_height (sixteen b) p n
   layer_kept p n =
       let top = slice_index_or (tops_of (sixteen a)) n (pos 0) in
       print.of_place_kept a b steps.export high low calm (λ config object. layer_with_top config object top)
-        (λ x y pair i. position (λ z. int_eq z top) (print.object_tops_kept a b steps.export high low calm x y pair i)) p None
+      (λ x y pair i. position (λ z. int_eq z top) (print.object_tops_kept a b steps.export high low calm x y pair i)) p None
       ∙ ap (λ tops. of_place (sixteen b) p None (λ object. layer_with_top b.config object (slice_index_or tops n (pos 0)))) (print.tops_kept a b steps.export high low calm)
 
   -- ---- of the print

@@ -21,7 +21,7 @@ fn words(rt: &(impl Env + AllocGlobal)) -> io::Result<Vec<String>> {
 fn tell(rt: &impl Eprint, status: &Status) -> io::Result<()> {
     match status {
         Status::Done => Ok(()),
-        Status::Usage => eprintln!(rt; "usage: plater run"),
+        Status::Usage => eprintln!(rt; "usage: plater run | slice"),
         Status::Refused { line, fault } => eprintln!(rt; "plater: line {line}: {fault}"),
         Status::ReadFault => eprintln!(rt; "plater: read failed"),
         Status::WriteFault => eprintln!(rt; "plater: write failed"),

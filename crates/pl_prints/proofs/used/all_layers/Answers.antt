@@ -6,10 +6,12 @@ use Rattle.pl_prints.proofs.PlaceLemmas.{gives_step, gives_all}
 use Rattle.pl_prints.proofs.used.all_layers.Goals as goal
 
 pub loop-place-preserved : goal.loop-place-preserved
-loop-place-preserved c = (omega (arith, c.loop-place.invariant.0, c.in_ok-put_layers.ensures.few),
-    gives_step (λ object. layers_in c.args.plate.now.config object ∷ []) c.places-place-items.result.now c.args.plate.now.places c.loop-place.place-index c.place-item.result c.place-item.result c.loop-place.layers.items c.put_layers.new.layers.items
-    c.places-place-items.ensures.places c.loop-place-test.true c.place-item.is c.loop-place.invariant.1
-    (c.in_ok-put_layers.ensures.layers ∙ ap (λ (config : KeyMap). c.loop-place.layers.items ++ of_object (λ object. layers_in config object ∷ []) c.place-item.result) c.config.ensures))
+loop-place-preserved c = (
+  omega (arith, c.loop-place.invariant.0, c.in_ok-put_layers.ensures.few),
+  gives_step (λ object. layers_in c.args.plate.now.config object ∷ []) c.places-place-items.result.now c.args.plate.now.places c.loop-place.place-index c.place-item.result c.place-item.result c.loop-place.layers.items c.put_layers.new.layers.items
+      c.places-place-items.ensures.places c.loop-place-test.true c.place-item.is c.loop-place.invariant.1
+      (c.in_ok-put_layers.ensures.layers ∙ ap (λ (config : KeyMap). c.loop-place.layers.items ++ of_object (λ object. layers_in config object ∷ []) c.place-item.result) c.config.ensures),
+)
 
 pub returns-clause-few : goal.returns-clause-few
 returns-clause-few c = omega (arith, c.loop-place.invariant.0, c.places-place-items.ensures.kept.sixteen)

@@ -1,6 +1,6 @@
 use Rattle.std.proofs.Common.{inr}
 use Rattle.pl_plater.proofs.Tops.{front_of_history}
-use Rattle.pl_plater.proofs.top.run_and_write.Goals as goal
+use Rattle.pl_plater.proofs.run.run_and_write.Goals as goal
 
 pub returns-in-Ok-put_transcript-clause-front : goal.returns-in-Ok-put_transcript-clause-front
 returns-in-Ok-put_transcript-clause-front g c =
