@@ -1,12 +1,11 @@
 -- The G-code of two plates between which the export is not touched is equal.
-use Rattle.std.proofs.Common.{◌≡◌, ℕ, ◌<◌, ◌≤◌, Bool, true, false, List, [], map, Option, None, refl, ap, ◌∙◌, arith}
+use Rattle.std.proofs.Common.{◌≡◌, ℕ, ◌<◌, ◌≤◌, true, false, List, [], map, None, refl, ap, ◌∙◌, arith}
 use Rattle.std.specs.Prelude.{pos, slice_index_or, position, if◌then◌else◌}
 use Rattle.std.specs.Ordering.{int_eq}
 use Rattle.std.specs.List.{range_with_len}
 use Rattle.std.specs.FinMap.{get}
 use Rattle.pl_keys.specs.declared.key.Key.{Key}
 use Rattle.pl_keys.specs.declared.key.Key.TheVariants as key
-use Rattle.pl_keys.specs.declared.value.Value.{Value}
 use Rattle.pl_keys.specs.Keys.{is_object_key}
 use Rattle.pl_keys.specs.Table.{touches}
 use Rattle.pl_keys.specs.Steps as steps
@@ -17,7 +16,6 @@ use Rattle.pl_rings.specs.Rings.{eroded_times}
 use Rattle.pl_fill.specs.Surfaces.{layer_at, solid_of, sparse_of, top_of}
 use Rattle.pl_fill.specs.Layers.{layer_axis, infill_of}
 use Rattle.pl_gcode.specs.Gcode.{gcode_of}
-use Rattle.pl_gcode.specs.Print.{Settings}
 use Rattle.pl_gcode.specs.SettingsOf.{whole_in, length_in, words_in, settings_of}
 use Rattle.pl_model.specs.declared.object.Object.{Object}
 use Rattle.pl_model.specs.Contents.{Contents}
@@ -27,7 +25,7 @@ use Rattle.pl_cascade.specs.Slots.{print_slot}
 use Rattle.pl_cascade.specs.Touched.{is_touched}
 use Rattle.pl_cascade.proofs.Arrows.{reaches}
 use Rattle.pl_values.specs.Options.{flag_in}
-use Rattle.pl_values.specs.ObjectValues.{layers_for, loops_for, inner_for, solid_for, sparse_for, top_for, infill_for, ironing_for, support_for, loop_lists_for, infill_lists_for, ironing_lists_for, support_lists_for, tool_for, corners_for}
+use Rattle.pl_values.specs.ObjectValues.{layers_for, loops_for, inner_for, infill_for, ironing_for, support_for, tool_for, corners_for}
 use Rattle.pl_values.specs.PrintValues.{tops_of, layer_with_top}
 use Rattle.pl_values.specs.Whole.{of_place, layer_at_height, print_of, plate_gcode}
 use Rattle.pl_steps.specs.Layers.{loops_in}

@@ -1,5 +1,5 @@
 -- The laws of that kind of print.
-use Rattle.std.proofs.Common.{◌≡◌, ◌≢◌, ◌<◌, ℕ, Bool, true, false, cond, List, [], Option, Some, None, true≢false, refl, ap, sym, ◌∙◌, arith}
+use Rattle.std.proofs.Common.{◌≡◌, ◌<◌, ℕ, Bool, true, false, cond, List, [], Option, Some, None, true≢false, refl, ap, sym, ◌∙◌, arith}
 use Rattle.std.specs.Prelude.{◌==◌}
 use Rattle.std.specs.Option.{option_map_or}
 use Rattle.std.proofs.lemmas.Bool.Decides.{nat_tests}
@@ -12,7 +12,7 @@ use Rattle.pl_model.specs.Places.{place_in}
 use Rattle.pl_model.specs.Problem.{problem_of}
 use Rattle.pl_model.specs.Same.{same_plates}
 use Rattle.pl_model.proofs.SamePlates.{same_plates-is}
-use Rattle.pl_cascade.specs.Slots.{is_object_slot, place_of, step_of, is_present, needs_slot}
+use Rattle.pl_cascade.specs.Slots.{is_object_slot, place_of, step_of, is_present}
 use Rattle.pl_cascade.specs.Touched.{is_touched}
 use Rattle.pl_cascade.proofs.Lawful as cascade
 use Rattle.pl_values.specs.PrintValues.{skirt_for, brim_for}
@@ -20,7 +20,7 @@ use Rattle.pl_values.specs.Whole.{plate_gcode}
 use Rattle.pl_slots.specs.Outputs.{output_bytes}
 use Rattle.pl_slots.specs.declared.output.FffOutput.{FffOutput}
 use Rattle.pl_slots.specs.declared.output.FffOutput.TheVariants.{Slices, Perimeters, Surfaces, Strokes, Support, Tower, Loops, Gcode}
-use Rattle.pl_slots.specs.ObjectSteps.{sliced_for, perimeters_for, prepared_for, filled_for, ironed_for, supported_for, object_value}
+use Rattle.pl_slots.specs.ObjectSteps.{sliced_for, perimeters_for, surface_sets_for, infill_strokes_for, ironing_strokes_for, support_set_for, object_value}
 use Rattle.pl_slots.specs.Values.{sixteen, tower_for, print_value, slot_value}
 use Rattle.pl_slots.specs.Fff.{fff_meaning}
 use Rattle.pl_slots.proofs.NameLaws.{names_short, names_solid, names_there, names_apart}
@@ -42,10 +42,10 @@ bytes_if false x y h k = k
 
 object_bytes : (config : KeyMap) (object : Object) (step : ℕ) → output_bytes (object_value config object step) ≡ []
 object_bytes config object step =
-    let support = bytes_if (step == steps.support) (Support (supported_for config object)) (Gcode []) refl refl in
-    let ironing = bytes_if (step == steps.ironing) (Strokes (ironed_for config object)) _ refl support in
-    let infill = bytes_if (step == steps.infill) (Strokes (filled_for config object)) _ refl ironing in
-    let prepare = bytes_if (step == steps.prepare) (Surfaces (prepared_for config object)) _ refl infill in
+    let support = bytes_if (step == steps.support) (Support (support_set_for config object)) (Gcode []) refl refl in
+    let ironing = bytes_if (step == steps.ironing) (Strokes (ironing_strokes_for config object)) _ refl support in
+    let infill = bytes_if (step == steps.infill) (Strokes (infill_strokes_for config object)) _ refl ironing in
+    let prepare = bytes_if (step == steps.prepare) (Surfaces (surface_sets_for config object)) _ refl infill in
     let perimeters = bytes_if (step == steps.perimeters) (Perimeters (perimeters_for config object)) _ refl prepare in
     bytes_if (step == steps.slice) (Slices (sliced_for config object)) _ refl perimeters
 

@@ -1,5 +1,6 @@
 pub mod Gathered
 pub mod NameLaws
+pub mod SameObjects
 pub mod ObjectKept
 pub mod PrintKept
 pub mod ExportKept

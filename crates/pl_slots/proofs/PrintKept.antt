@@ -1,5 +1,5 @@
 -- The results of an untouched step of the print of two plates are equal.
-use Rattle.std.proofs.Common.{◌≡◌, ℕ, zero, suc, ◌<◌, ◌≤◌, Bool, true, false, cond, List, [], length, map, Option, Some, None, inl, inr, refl, sym, ap, ◌∙◌, arith}
+use Rattle.std.proofs.Common.{◌≡◌, ℕ, ◌<◌, ◌≤◌, Bool, true, false, [], map, Option, Some, None, inl, inr, refl, sym, ap, ◌∙◌, arith}
 use Rattle.std.specs.Prelude.{ℤ, ◌-◌, ◌-ℤ◌, ◌==◌, ◌&&◌, ◌||◌, is_some, position, if◌then◌else◌}
 use Rattle.std.specs.Ordering.{int_eq}
 use Rattle.std.specs.List.{range_with_len, list_any}
@@ -15,7 +15,6 @@ use Rattle.pl_options.specs.KeyMap.{KeyMap}
 use Rattle.pl_grid.specs.Planes.{filled, plane_of}
 use Rattle.pl_fill.specs.Surfaces.{layer_at}
 use Rattle.pl_layers.specs.Heights.{z_of, layer_count_of}
-use Rattle.pl_support.specs.Support.{support_of}
 use Rattle.pl_adhesion.specs.Skirt.{skirt_of}
 use Rattle.pl_adhesion.specs.Brim.{brim_of}
 use Rattle.pl_tower.specs.Heights.{tools_along}
@@ -33,12 +32,11 @@ use Rattle.pl_cascade.proofs.Untouched.{same_places, same_instances, same_shapes
 use Rattle.pl_values.specs.Options.{flag_in, cells_in}
 use Rattle.pl_values.specs.Ascending.{ascending}
 use Rattle.pl_values.specs.ObjectValues.{layers_for, tool_for, corner_for, corners_for, supports_for}
-use Rattle.pl_values.specs.PrintValues.{places_of, objects_of, tops_for, tops_of, heights_of, layer_with_top, is_used, tool_set_of, tools_of, bed, is_at_bottom, is_below, ground_of, farther, skirt_for, brim_for, block_for, blocks_of}
+use Rattle.pl_values.specs.PrintValues.{places_of, objects_of, tops_for, tops_of, heights_of, layer_with_top, is_used, tool_set_of, tools_of, bed, is_below, ground_of, farther, skirt_for, brim_for, block_for, blocks_of}
 use Rattle.pl_values.specs.Whole.{of_place}
-use Rattle.pl_steps.specs.Layers.{slices_of}
-use Rattle.pl_slots.specs.declared.output.FffOutput.TheVariants.{Tower, Loops}
 use Rattle.pl_slots.specs.ObjectSteps.{sliced_for}
-use Rattle.pl_slots.specs.Values.{sixteen, tower_for, print_value}
+use Rattle.pl_slots.specs.Values.{sixteen, tower_for}
+use Rattle.pl_slots.proofs.SameObjects.{same_slices, same_supports}
 use Rattle.pl_slots.proofs.Gathered.{filled_alike, flat_alike, any_alike, option_alike, first_places, no_more_places}
 
 -- a step is reached from slicing
@@ -63,10 +61,7 @@ module _ (a b : Contents) (step : ℕ) (above : 6 ≤ step) (below : step < 10) 
       let shape = same_shapes a b step above below calm pair.place x y pair.here pair.old pair.new in
       let first = option_kept steps.slice key.FirstLayerHeight (from_slice step below) refl refl x y pair in
       let height = option_kept steps.slice key.LayerHeight (from_slice step below) refl refl x y pair in
-      λ i. record {
-        heights = record { first = length_in (first i); height = length_in (height i) };
-        planes = slices_of (shape.0 i) (shape.1 i) (record { first = length_in (first i); height = length_in (height i) });
-      }
+      same_slices a.config b.config x y shape first height
 
   -- how many layers both have, and their tops
   pub layers_kept : (x y : Object) → IsPair x y → layers_for a.config x ≡ layers_for b.config y
@@ -87,7 +82,7 @@ module _ (a b : Contents) (step : ℕ) (above : 6 ≤ step) (below : step < 10) 
   supports_kept r x y pair =
       let on = option_kept steps.support key.SupportMaterial r refl refl x y pair in
       let only = option_kept steps.support key.SupportMaterialBuildplateOnly r refl refl x y pair in
-      λ i. support_of (flag_in (on i)) (flag_in (only i)) (sliced_kept x y pair i).planes
+      same_supports a.config b.config x y (sliced_kept x y pair) on only
 
   -- what both give at each place
   pub place_kept : {X : Type 0} (gives : KeyMap → Object → X) → ((x y : Object) → IsPair x y → gives a.config x ≡ gives b.config y) → (p : ℕ) → option_map (gives a.config) (place_in (sixteen a).places p) ≡ option_map (gives b.config) (place_in (sixteen b).places p)

@@ -1,15 +1,13 @@
 -- A slot that is present in two plates and not touched between them has the same result in both.
-use Rattle.std.proofs.Common.{◌≡◌, ℕ, zero, suc, ◌+◌, ◌*◌, ◌-◌, ◌/◌, ◌%◌, ◌<◌, ◌≤◌, Bool, true, false, cond, [], Option, Some, None, is_some, true≢false, refl, sym, ap, ◌∙◌, arith}
+use Rattle.std.proofs.Common.{◌≡◌, ℕ, zero, suc, ◌+◌, ◌-◌, ◌/◌, ◌%◌, ◌<◌, ◌≤◌, Bool, true, false, cond, [], Option, Some, None, is_some, true≢false, refl, sym, ap, ◌∙◌, arith}
 use Rattle.std.specs.Option.{option_map_or}
 use Rattle.std.proofs.lemmas.Bool.{ltb-true, ltb-false, cond-true, cond-false}
-use Rattle.pl_keys.specs.Steps as steps
 use Rattle.pl_model.specs.declared.object.Object.{Object}
 use Rattle.pl_model.specs.Contents.{Contents}
 use Rattle.pl_model.specs.Places.{place_in}
 use Rattle.pl_cascade.specs.Slots.{is_object_slot, place_of, step_of, object_slot, print_slot, is_present}
 use Rattle.pl_cascade.specs.Touched.{is_touched}
 use Rattle.pl_cascade.proofs.Lawful.{present_below}
-use Rattle.pl_slots.specs.declared.output.FffOutput.{FffOutput}
 use Rattle.pl_slots.specs.declared.output.FffOutput.TheVariants.{Tower, Loops, Gcode}
 use Rattle.pl_slots.specs.ObjectSteps.{object_value}
 use Rattle.pl_slots.specs.Values.{sixteen, print_value, slot_value}

@@ -1,4 +1,4 @@
--- What a plate, its edits and its slots mean where it is printed layer by layer of molten plastic.
+-- What plates, edits and slots mean where layers of molten filament are printed.
 use Rattle.pl_tech.specs.Technology.{Meaning}
 use Rattle.pl_edit.specs.declared.edit.Edit.{Edit}
 use Rattle.pl_edit.specs.declared.reply.EditReply.{EditReply}

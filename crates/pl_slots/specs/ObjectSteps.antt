@@ -25,23 +25,23 @@ abbrev pub perimeters_of : ObjectOptions → List Cells → PerimeterSet
 perimeters_of options slices = record { loops = map (loops_in options.perimeters) slices; inner = inner_of options.perimeters slices }
 
 -- the surfaces of each layer, by the slices and by what the perimeters leave
-abbrev pub prepared_of : ObjectOptions → List Cells → List Cells → List SurfaceSet
-prepared_of options slices inner = each (length inner) (surfaces_at slices inner options.top options.bottom)
+abbrev pub surface_sets_of : ObjectOptions → List Cells → List Cells → List SurfaceSet
+surface_sets_of options slices inner = each (length inner) (surfaces_at slices inner options.top options.bottom)
 
 -- the strokes that fill each layer
-abbrev pub filled_of : ObjectOptions → List SurfaceSet → List (List Stroke)
-filled_of options sets = each (length sets) (infill_at sets options.density)
+abbrev pub infill_strokes_of : ObjectOptions → List SurfaceSet → List (List Stroke)
+infill_strokes_of options sets = each (length sets) (infill_at sets options.density)
 
 -- the strokes that iron each layer
-abbrev pub ironed_of : ObjectOptions → List SurfaceSet → List (List Stroke)
-ironed_of options sets = each (length sets) (ironing_at options.ironing sets)
+abbrev pub ironing_strokes_of : ObjectOptions → List SurfaceSet → List (List Stroke)
+ironing_strokes_of options sets = each (length sets) (ironing_at options.ironing sets)
 
 -- the support of each layer
-abbrev pub supported_by : List Cells → SupportSet
-supported_by cells = record { cells = cells; strokes = each (length cells) (support_in cells) }
+abbrev pub support_set_on : List Cells → SupportSet
+support_set_on cells = record { cells = cells; strokes = each (length cells) (support_in cells) }
 
-abbrev pub supported_of : ObjectOptions → List Cells → SupportSet
-supported_of options slices = supported_by (support_of options.support options.plate_only slices)
+abbrev pub support_set_of : ObjectOptions → List Cells → SupportSet
+support_set_of options slices = support_set_on (support_of options.support options.plate_only slices)
 
 -- ---- of an object
 
@@ -51,25 +51,25 @@ sliced_for config object = record { heights = heights_for config object; planes 
 abbrev pub perimeters_for : KeyMap → Object → PerimeterSet
 perimeters_for config object = perimeters_of (options_for config object) (slices_for config object)
 
-abbrev pub prepared_for : KeyMap → Object → List SurfaceSet
-prepared_for config object = prepared_of (options_for config object) (slices_for config object) (perimeters_for config object).inner
+abbrev pub surface_sets_for : KeyMap → Object → List SurfaceSet
+surface_sets_for config object = surface_sets_of (options_for config object) (slices_for config object) (perimeters_for config object).inner
 
-abbrev pub filled_for : KeyMap → Object → List (List Stroke)
-filled_for config object = filled_of (options_for config object) (prepared_for config object)
+abbrev pub infill_strokes_for : KeyMap → Object → List (List Stroke)
+infill_strokes_for config object = infill_strokes_of (options_for config object) (surface_sets_for config object)
 
-abbrev pub ironed_for : KeyMap → Object → List (List Stroke)
-ironed_for config object = ironed_of (options_for config object) (prepared_for config object)
+abbrev pub ironing_strokes_for : KeyMap → Object → List (List Stroke)
+ironing_strokes_for config object = ironing_strokes_of (options_for config object) (surface_sets_for config object)
 
-abbrev pub supported_for : KeyMap → Object → SupportSet
-supported_for config object = supported_of (options_for config object) (slices_for config object)
+abbrev pub support_set_for : KeyMap → Object → SupportSet
+support_set_for config object = support_set_of (options_for config object) (slices_for config object)
 
 -- the result of a step of an object
 abbrev pub object_value : KeyMap → Object → ℕ → FffOutput
 object_value config object step =
     if step == steps.slice then Slices (sliced_for config object)
     else if step == steps.perimeters then Perimeters (perimeters_for config object)
-    else if step == steps.prepare then Surfaces (prepared_for config object)
-    else if step == steps.infill then Strokes (filled_for config object)
-    else if step == steps.ironing then Strokes (ironed_for config object)
-    else if step == steps.support then Support (supported_for config object)
+    else if step == steps.prepare then Surfaces (surface_sets_for config object)
+    else if step == steps.infill then Strokes (infill_strokes_for config object)
+    else if step == steps.ironing then Strokes (ironing_strokes_for config object)
+    else if step == steps.support then Support (support_set_for config object)
     else Gcode []

@@ -1,7 +1,5 @@
-use Rattle.std.proofs.Common.{◌≡◌, ◌/◌, ◌%◌, ◌<◌, ◌+◌, ◌≤◌, ◌++◌, length, ap, sym, ◌∙◌, arith, length-append, ℕ, codes}
+use Rattle.std.proofs.Common.{◌≡◌, ◌/◌, ◌<◌, ap, ◌∙◌, arith}
 use Rattle.std.specs.Fmt.{decimal}
-use Rattle.std.proofs.lemmas.Bool.Decides.{nat_tests}
-use Rattle.pl_slots.specs.Names.{step_name}
 use Rattle.pl_slots.proofs.NameLaws.{object_name_fits}
 use Rattle.pl_slots.proofs.names.put_name.Goals as goal
 

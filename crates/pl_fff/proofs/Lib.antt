@@ -1,0 +1,3 @@
+mod ObjectResults
+mod PrintResults
+mod Needed
