@@ -15,8 +15,7 @@ use std::thread::Threads;
 /// Counts its runs.
 #[derive(Debug, Drop)]
 pub struct FffBench {
-    /// How many runs were made.
-    pub runs: u64,
+    runs: u64,
 }
 
 /// Objects printed layer by layer of molten plastic. Each object of a plate has six slots, its slices, perimeters, surfaces,

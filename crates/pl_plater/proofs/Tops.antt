@@ -1,7 +1,6 @@
 -- What the top call answers.
-use Rattle.std.proofs.Common.{◌≡◌, ◌<◌, ◌≤◌, ℕ, List, [], ◌∷◌, ◌++◌, length, get_or, refl, ap, sym, subst, ◌∙◌, arith, ◌≢◌, Option, Some, None, Result, Ok, Err, inl, inr, ◌⊎◌}
+use Rattle.std.proofs.Common.{◌≡◌, ◌≤◌, ℕ, List, ◌++◌, length, refl, ap, sym, subst, ◌∙◌, arith, ◌≢◌, Option, Some, None, Ok, Err, inl, inr, ◌⊎◌}
 use Rattle.std.specs.Prelude.{String, IfSome}
-use Rattle.std.specs.Option.{option_map_or}
 use Rattle.std.specs.Global.{Global}
 use Rattle.std.specs.Io.KnownBytes.{Consumes, Appends, IsAtEnd}
 use Rattle.std.proofs.lemmas.List.{append-nil}
@@ -15,12 +14,11 @@ use Rattle.pl_script.specs.Reading.{Refuses}
 use Rattle.pl_script.specs.Script.{Script, Breach, script_of}
 use Rattle.pl_model.specs.Contents.{Contents}
 use Rattle.pl_model.specs.Problem.{problem_of}
-use Rattle.pl_tech.specs.declared.problem.Problem.{Problem}
-use Rattle.pl_sliced.specs.declared.text.SliceText.{SliceText}
+use Rattle.pl_model.proofs.Printing.{told_computed}
 use Rattle.pl_sliced.specs.declared.fault.SliceFault.{SliceFault}
 use Rattle.pl_sliced.specs.declared.fault.SliceFault.TheVariants as fault
-use Rattle.pl_sliced.specs.Text.{slice_text_of}
-use Rattle.pl_sliced.specs.Plates.{SliceBreach, broken, of_script, configured, loaded, sound, plate_of, sliced_of}
+use Rattle.pl_sliced.specs.Plates.{of_script, sliced_of}
+use Rattle.pl_sliced.specs.Slicing.{IsSliced}
 use Rattle.pl_sliced.specs.Reading as slices
 use Rattle.pl_plater.specs.declared.status.Status.{Status}
 use Rattle.pl_plater.specs.declared.words.Task.{Task}
@@ -28,10 +26,10 @@ use Rattle.pl_plater.specs.declared.words.Task.TheVariants.{Run, Slice}
 use Rattle.pl_plater.specs.Words.{task_of, OnTask}
 use Rattle.pl_plater.specs.Status.{IsBeforeWriting, IsAfterReading, script_status, slice_status, stop_status}
 use Rattle.pl_session.specs.Complete.{IsComplete, runs_of}
-use Rattle.pl_thin.specs.Thin.{thin_meaning}
+use Rattle.pl_slots.specs.Fff.{fff_meaning}
 use Rattle.pl_transcript.specs.Entries.{transcript}
-use Rattle.pl_plater.specs.Commands.{unserved, served_or, played, session_commands}
-use Rattle.pl_plater.specs.Headline.{limit, Meaning, meaning_of, IsCause, Answers, IsInput, EndsWell, History, Wrote, WroteFront, WritesFront}
+use Rattle.pl_plater.specs.Commands.{session_commands}
+use Rattle.pl_plater.specs.Headline.{limit, Meaning, meaning_of, IsCause, Answers, IsInput, EndsWell, History, IsTranscript, Wrote, WroteFront, WritesFront}
 
 -- what holds of the command that was told
 pub on_task : (words : List (String Global)) (told : Option Task) (task : Task) (P : Task → Type 0) → told ≡ task_of words → told ≡ Some task → P task → OnTask words P
@@ -43,27 +41,16 @@ whole_text None new text P taken end h = tt
 whole_text (Some bytes) None text P taken end h = absurd taken
 whole_text (Some bytes) (Some rest) text P taken end h = subst P (sym (taken ∙ ap (λ l. text ++ l) end ∙ append-nil text)) h
 
--- what a script is read as, by its first line that is not served
-played_is : (bytes : List ℕ) (script : Script) (line : Option ℕ) → script_of bytes ≡ Ok script → unserved script.lines ≡ line → played bytes ≡ served_or script line
-played_is bytes script line e u = ap (λ r. and_then r (λ s. served_or s (unserved s.lines))) e ∙ ap (served_or script) u
-
-played_not : (bytes : List ℕ) (breach : Breach) → script_of bytes ≡ Err breach → played bytes ≡ Err breach
-played_not bytes breach e = ap (λ r. and_then r (λ s. served_or s (unserved s.lines))) e
-
-pub script_is : (bytes : List ℕ) (script : Script) → script_of bytes ≡ Ok script → unserved script.lines ≡ None → meaning_of Run bytes ≡ Ok script
-script_is bytes script e u = ap of_script (played_is bytes script None e u)
+pub script_is : (bytes : List ℕ) (script : Script) → script_of bytes ≡ Ok script → meaning_of Run bytes ≡ Ok script
+script_is bytes script e = ap of_script e
 
 breach_answers : (task : Task) (bytes : List ℕ) (line : ℕ) (why : SliceFault) → length bytes ≤ limit → meaning_of task bytes ≡ Err (record { line = line; fault = why }) → IsCause task line why bytes
 breach_answers task bytes line why short e = inr (record { short = short; reading = e })
 
--- a script whose command on this line is not served
-pub answers_unserved : (bytes : List ℕ) (script : Script) (line : ℕ) → length bytes ≤ limit → script_of bytes ≡ Ok script → unserved script.lines ≡ Some line → IsCause Run line (fault.Script ScriptFault.UnknownCommand) bytes
-answers_unserved bytes script line short e u = breach_answers Run bytes line (fault.Script ScriptFault.UnknownCommand) short (ap of_script (played_is bytes script (Some line) e u))
-
 -- an input that was refused
 pub answers_refusal : (refusal : Refusal ScriptFault) (status : Status) (bytes : List ℕ) → length bytes ≤ limit → status ≡ script_status refusal → Refuses refusal (script_of bytes) → Answers Run status bytes
 answers_refusal (Fault line why) status bytes short e h =
-    subst (λ (s : Status). Answers Run s bytes) (sym e) (breach_answers Run bytes line (fault.Script why) short (ap of_script (played_not bytes (record { line = line; fault = why }) h)))
+    subst (λ (s : Status). Answers Run s bytes) (sym e) (breach_answers Run bytes line (fault.Script why) short (ap of_script h))
 answers_refusal Refusal.NoMemory status bytes short e h = subst (λ (s : Status). Answers Run s bytes) (sym e) tt
 
 pub answers_slice_refusal : (refusal : Refusal SliceFault) (status : Status) (bytes : List ℕ) → length bytes ≤ limit → status ≡ slice_status refusal → slices.Refuses (sliced_of bytes) refusal → Answers Slice status bytes
@@ -71,22 +58,8 @@ answers_slice_refusal (Fault line why) status bytes short e h = subst (λ (s : S
 answers_slice_refusal Refusal.NoMemory status bytes short e h = subst (λ (s : Status). Answers Slice s bytes) (sym e) tt
 
 -- the plate of a text has no problem
-
-then_ok : {X Y E : Type 0} (read : Result X E) (next : X → Result Y E) (y : Y) → and_then read next ≡ Ok y → (x : X) × (next x ≡ Ok y)
-then_ok (Ok x) next y e = (x, e)
-then_ok (Err why) next y e = absurd (cc e)
-
-sound_is : (number : ℕ) (plate given : Contents) (problem : Option Problem) → option_map_or (λ why. broken number (fault.Problem why)) problem (Ok plate) ≡ Ok given → (problem ≡ None) × (plate ≡ given)
-sound_is number plate given None e = (refl, cc e)
-sound_is number plate given (Some why) e = absurd (cc e)
-
-pub no_problem : (bytes : List ℕ) (plate : Contents) → sliced_of bytes ≡ Ok plate → problem_of plate ≡ None
-no_problem bytes plate e =
-    let text : (text : SliceText) × (plate_of text ≡ Ok plate) = then_ok (of_script (slice_text_of bytes)) plate_of plate e in
-    let set : (set : Contents) × (and_then (loaded text.0.mesh set) (sound text.0.mesh.line) ≡ Ok plate) = then_ok (configured text.0.settings) (λ p. and_then (loaded text.0.mesh p) (sound text.0.mesh.line)) plate text.1 in
-    let made : (made : Contents) × (sound text.0.mesh.line made ≡ Ok plate) = then_ok (loaded text.0.mesh set.0) (sound text.0.mesh.line) plate set.1 in
-    let parts : (problem_of made.0 ≡ None) × (made.0 ≡ plate) = sound_is text.0.mesh.line made.0 plate (problem_of made.0) made.1 in
-    sym (ap problem_of parts.1) ∙ parts.0
+pub no_problem : (bytes : List ℕ) (plate : Contents) → IsSliced bytes plate → problem_of plate ≡ None
+no_problem bytes plate sliced = told_computed plate None sliced.printable
 
 -- an input that was read
 pub answers_read : (task : Task) (status : Status) (bytes : List ℕ) (meaning : Meaning task) → IsAfterReading status → length bytes ≤ limit → meaning_of task bytes ≡ Ok meaning → Answers task status bytes
@@ -146,10 +119,13 @@ answers_stop task ReadStop.TooLong status old new e long = subst (λ (s : Status
 answers_stop task ReadStop.NoMemory status old new e long = subst (λ (s : Status). IfSome old (Answers task s)) (sym e) (anything old (Answers task (stop_status ReadStop.NoMemory)) (λ bytes. tt))
 
 -- the transcript of a script's history, and a front of it
-pub all_of_history : (script : Script) (old new : Option (List ℕ)) (history written : History) (runs : ℕ) → IsComplete thin_meaning (session_commands script.lines) 0 history → runs ≡ runs_of history → written ≡ history → Appends old new (transcript thin_meaning written runs) → Wrote Run script old new
-all_of_history script old new history written runs done r e all =
-    record { text = transcript thin_meaning written runs; output = record { history = history; complete = done; is = rw (e, r) refl }; written = all }
+module _ (script : Script) (old new : Option (List ℕ)) (history written : History) (runs : ℕ) (done : IsComplete fff_meaning (session_commands script.lines) 0 history)
+    (alone : (other : History) → IsComplete fff_meaning (session_commands script.lines) 0 other → other ≡ history) (counted : runs ≡ runs_of history) (whole : written ≡ history) where
+  told : IsTranscript script (transcript fff_meaning written runs)
+  told = record { history = history; complete = done; alone = alone; is = rw (whole, counted) refl }
 
-pub front_of_history : (script : Script) (old new : Option (List ℕ)) (history written : History) (runs : ℕ) → IsComplete thin_meaning (session_commands script.lines) 0 history → runs ≡ runs_of history → written ≡ history → AppendsFront old new (transcript thin_meaning written runs) → WroteFront Run script old new
-front_of_history script old new history written runs done r e front =
-    record { text = transcript thin_meaning written runs; output = record { history = history; complete = done; is = rw (e, r) refl }; written = front }
+  pub all_of_history : Appends old new (transcript fff_meaning written runs) → Wrote Run script old new
+  all_of_history all = record { text = transcript fff_meaning written runs; output = told; written = all }
+
+  pub front_of_history : AppendsFront old new (transcript fff_meaning written runs) → WroteFront Run script old new
+  front_of_history front = record { text = transcript fff_meaning written runs; output = told; written = front }

@@ -5,7 +5,7 @@ use Rattle.pl_ports.specs.Causes.{AppendsFront}
 use Rattle.pl_edit.specs.declared.edit.Edit.{Edit}
 use Rattle.pl_edit.specs.declared.reply.EditReply.{EditReply}
 use Rattle.pl_script.specs.declared.fault.ScriptFault.{ScriptFault}
-use Rattle.pl_script.specs.Script.{Script}
+use Rattle.pl_script.specs.Script.{Script, script_of}
 use Rattle.pl_sliced.specs.declared.fault.SliceFault.{SliceFault}
 use Rattle.pl_sliced.specs.declared.fault.SliceFault.TheVariants.{Script as OfScript}
 use Rattle.pl_sliced.specs.Plates.{SliceBreach, of_script, sliced_of}
@@ -17,13 +17,13 @@ use Rattle.pl_plater.specs.declared.words.Task.TheVariants.{Run, Slice}
 use Rattle.pl_machine.specs.declared.entry.Entry.{Entry}
 use Rattle.pl_session.specs.Complete.{IsComplete, runs_of}
 use Rattle.pl_model.specs.Contents.{Contents}
-use Rattle.pl_thin.specs.declared.output.ThinOutput.{ThinOutput}
-use Rattle.pl_thin.specs.declared.thin.Thin.{Thin}
-use Rattle.pl_thin.specs.declared.thin.ThinJob.{ThinJob}
-use Rattle.pl_thin.specs.declared.thin.ThinBench.{ThinBench}
-use Rattle.pl_thin.specs.Thin.{thin_meaning}
+use Rattle.pl_slots.specs.declared.output.FffOutput.{FffOutput}
+use Rattle.pl_slots.specs.Fff.{fff_meaning}
+use Rattle.pl_fff.specs.declared.fff.Fff.{Fff}
+use Rattle.pl_fff.specs.declared.fff.FffBench.{FffBench}
+use Rattle.pl_fff.specs.declared.job.FffJob.{FffJob}
 use Rattle.pl_transcript.specs.Entries.{transcript}
-use Rattle.pl_plater.specs.Commands.{played, session_commands}
+use Rattle.pl_plater.specs.Commands.{session_commands}
 
 -- ---- input
 
@@ -36,9 +36,9 @@ abbrev pub Meaning : Task → Type 0
 Meaning Run = Script
 Meaning Slice = Contents
 
--- what bytes mean to a command, or why it refuses them: a script that is served, or a plate that can be printed
+-- what bytes mean to a command, or why it refuses them: a script, or a plate that can be printed
 abbrev pub meaning_of : (task : Task) → List ℕ → Result (Meaning task) SliceBreach
-meaning_of Run bytes = of_script (played bytes)
+meaning_of Run bytes = of_script (script_of bytes)
 meaning_of Slice bytes = sliced_of bytes
 
 -- the bytes are an input of the command, and not too long
@@ -68,15 +68,17 @@ Answers task _ bytes = ⊤
 
 -- ---- output
 
--- the histories of this stage
+-- histories of plates that are printed layer by layer of molten plastic
 abbrev pub History : Type 0
-History = List (Entry Thin Contents Edit EditReply ThinOutput ThinJob ThinBench)
+History = List (Entry Fff Contents Edit EditReply FffOutput FffJob FffBench)
 
--- the text is the transcript of a legal history that is complete for the script, and of its runs
+-- the text is the transcript of the one legal history that is complete for the script, and of its runs
 pub record IsTranscript (script : Script) (text : List ℕ) : Type 0 where
   pub history : History
-  pub complete : IsComplete thin_meaning (session_commands script.lines) 0 history
-  pub is : text ≡ transcript thin_meaning history (runs_of history)
+  pub complete : IsComplete fff_meaning (session_commands script.lines) 0 history
+  -- no other history is
+  pub alone : (other : History) → IsComplete fff_meaning (session_commands script.lines) 0 other → other ≡ history
+  pub is : text ≡ transcript fff_meaning history (runs_of history)
 
 -- what a command writes: a transcript of the script, or the G-code of the plate
 abbrev pub IsOutput : (task : Task) → Meaning task → List ℕ → Type 0

@@ -5,6 +5,8 @@
 mod bodies;
 mod commands;
 #[cfg(test)]
+mod edit_tests;
+#[cfg(test)]
 mod examples;
 mod run;
 mod slice;
@@ -16,6 +18,7 @@ mod tests;
 mod top;
 mod words;
 
+// Why an input is refused: a script by `Script` alone, and an input that is too long by `Script(TooLong)`.
 pub use pl_sliced::SliceFault as TopFault;
 pub use slice::slice_once;
 pub use status::Status;

@@ -1,40 +1,43 @@
 //! The command `run`.
-ghost use Rattle.std.specs.Prelude.{◌≡◌, ◌≢◌, ◌≤◌, ◌⊎◌, length, IfOk, IfSome, None};
+ghost use Rattle.std.specs.Prelude.{◌≡◌, ◌≢◌, ◌≤◌, ◌⊎◌, length, All, IfOk, IfSome};
 ghost use Rattle.std.specs.Io.KnownBytes.{IsAtEnd};
 ghost use Rattle.pl_ports.specs.Causes.{Rose, TookAtMost};
 ghost use Rattle.pl_session.specs.Complete.{IsComplete, runs_of};
-ghost use Rattle.pl_thin.specs.Thin.{thin_meaning};
+ghost use Rattle.pl_script.specs.Early.{IsOfFirst};
+ghost use Rattle.pl_slots.specs.Fff.{fff_meaning};
 ghost use Rattle.pl_plater.specs.declared.words.Task.TheVariants as tasks;
-ghost use Rattle.pl_plater.specs.Commands.{unserved, session_commands};
+ghost use Rattle.pl_plater.specs.Commands.{session_commands};
 ghost use Rattle.pl_plater.specs.Status.{IsBeforeWriting, IsAfterReading, script_status};
-ghost use Rattle.pl_plater.specs.Headline.{limit, Answers, IsInput, EndsWell, Wrote, WroteFront, Writes, WritesFront};
+ghost use Rattle.pl_plater.specs.Headline.{limit, Answers, IsInput, EndsWell, History, Wrote, WroteFront, Writes, WritesFront};
 
 use crate::TopFault;
-use crate::commands::{served_commands, unserved};
+use crate::commands::commands_of;
 use crate::status::Status;
 use crate::top::LIMIT;
+use pl_fff::Fff;
 use pl_ports::{Sink, SinkStop, Source, read_all};
-use pl_script::{Script, ScriptFault, read_script};
-use pl_session::{Ended, run_session};
-use pl_thin::Thin;
+use pl_script::{Script, ScriptFault, read_script, scripts_are_of_the_first_session};
+use pl_session::{Ended, one_complete_history, run_session};
 use pl_transcript::put_transcript;
 use pl_units::{NoMemory, Refusal};
 use std::alloc::Global;
 use std::thread::Threads;
 
-// Runs the commands of a script, which are all served so far, on the calling thread.
+// Runs the commands of a script of the first session on the calling thread.
 fn run_script<R: Threads + Sync>(
     rt: &R,
     alloc: Global,
     script: Script,
-) -> Result<Ended<Thin>, NoMemory>
-    requires { unserved script.lines ≡ None }
-    ensures complete { IfOk result (λ ended. IsComplete thin_meaning (session_commands script.lines) 0 ended.journal.items) }
+) -> Result<Ended<Fff>, NoMemory>
+    requires { All IsOfFirst script.lines }
+    ensures complete { IfOk result (λ ended. IsComplete fff_meaning (session_commands script.lines) 0 ended.journal.items) }
+    ensures alone { IfOk result (λ ended. (other : History) → IsComplete fff_meaning (session_commands script.lines) 0 other → other ≡ ended.journal.items) }
     ensures runs { IfOk result (λ ended. ended.runs ≡ runs_of ended.journal.items) }
 {
+    one_complete_history::<Fff>();
     let (_, _, lines) = script.into_parts();
-    let commands = served_commands(alloc, lines)?;
-    run_session::<Thin, R>(rt, alloc, commands)
+    let commands = commands_of(alloc, lines)?;
+    run_session::<Fff, R>(rt, alloc, commands)
 }
 
 // A refusal of the script.
@@ -50,14 +53,14 @@ fn refused(refusal: &Refusal<ScriptFault>) -> Status
     }
 }
 
-// Runs a script, whose commands are all served so far, and writes its transcript.
+// Runs a script of the first session and writes its transcript.
 fn run_and_write<R: Threads + Sync, K: Sink>(
     rt: &R,
     alloc: Global,
     script: Script,
     sink: &mut K,
 ) -> Status
-    requires { unserved script.lines ≡ None }
+    requires { All IsOfFirst script.lines }
     ensures ended { IsAfterReading result }
     ensures done { result ≡ Status.Done → Wrote tasks.Run script (K.held sink.old) (K.held sink.new) }
     ensures write { result ≡ Status.WriteFault → Rose (K.faults sink.old) (K.faults sink.new) }
@@ -88,13 +91,8 @@ fn play<R: Threads + Sync, K: Sink>(rt: &R, alloc: Global, bytes: &[u8], sink: &
         Ok(script) => script,
         Err(refusal) => return refused(&refusal),
     };
-    match unserved(script.lines().all()) {
-        Some(line) => Status::Refused {
-            line,
-            fault: TopFault::Script(ScriptFault::UnknownCommand),
-        },
-        None => run_and_write(rt, alloc, script, sink),
-    }
+    scripts_are_of_the_first_session();
+    run_and_write(rt, alloc, script, sink)
 }
 
 /// The command `run`: reads a script of at most 2^28 bytes to its end, runs it and writes its transcript.

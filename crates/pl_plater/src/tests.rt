@@ -12,15 +12,15 @@ use std::thread::Threads;
 const BOX: &[u8] =
     b"plater 1\ndata box\nsolid box\nfacet normal 0 0 0\nouter loop\nvertex 0 0 0\nvertex 0 0.8 0\nvertex 0.8 0 0\nendloop\nendfacet\nfacet normal 0 0 0\nouter loop\nvertex 0.8 0 0\nvertex 0 0.8 0\nvertex 0.8 0.8 0\nendloop\nendfacet\nfacet normal 0 0 0\nouter loop\nvertex 0 0 0.4\nvertex 0.8 0 0.4\nvertex 0 0.8 0.4\nendloop\nendfacet\nfacet normal 0 0 0\nouter loop\nvertex 0.8 0 0.4\nvertex 0.8 0.8 0.4\nvertex 0 0.8 0.4\nendloop\nendfacet\nfacet normal 0 0 0\nouter loop\nvertex 0 0 0\nvertex 0.8 0 0\nvertex 0 0 0.4\nendloop\nendfacet\nfacet normal 0 0 0\nouter loop\nvertex 0.8 0 0\nvertex 0.8 0 0.4\nvertex 0 0 0.4\nendloop\nendfacet\nfacet normal 0 0 0\nouter loop\nvertex 0 0.8 0\nvertex 0 0.8 0.4\nvertex 0.8 0.8 0\nendloop\nendfacet\nfacet normal 0 0 0\nouter loop\nvertex 0.8 0.8 0\nvertex 0 0.8 0.4\nvertex 0.8 0.8 0.4\nendloop\nendfacet\nfacet normal 0 0 0\nouter loop\nvertex 0 0 0\nvertex 0 0 0.4\nvertex 0 0.8 0\nendloop\nendfacet\nfacet normal 0 0 0\nouter loop\nvertex 0 0.8 0\nvertex 0 0 0.4\nvertex 0 0.8 0.4\nendloop\nendfacet\nfacet normal 0 0 0\nouter loop\nvertex 0.8 0 0\nvertex 0.8 0.8 0\nvertex 0.8 0 0.4\nendloop\nendfacet\nfacet normal 0 0 0\nouter loop\nvertex 0.8 0.8 0\nvertex 0.8 0.8 0.4\nvertex 0.8 0 0.4\nendloop\nendfacet\nendsolid box\n.end\n";
 
-// What a load, an apply and an export of the box write.
+// A box of which all is filled, without perimeters and skirts.
+const FILLED: &[u8] =
+    b"1 load cube box\n1 set perimeters 0\n1 set fill_density 100%\n1 set skirts 0\n1 apply\n1 export\n";
+
+// What it writes.
 const TRANSCRIPT: &[u8] =
-    b"1 s1 load cube box = object 0\n2 s1 apply = changed\n3 s1 start 0.slice 0\n4 s1 done 0.slice 0\n5 s1 start export 0\n6 s1 done export 0\n7 s1 export = gcode 409\n; headless plater\nG21\nG90\nM83\nM140 S60\nM104 S215\nM190 S60\nM109 S215\n;Z 0.200\nG1 Z0.200 F7800\n;OBJECT 0 0\nG1 X0.000 Y0.200 F7800\nG1 F4800\nG1 X0.800 Y0.200 E0.02660\nG1 X0.800 Y0.600 F7800\nG1 F4800\nG1 X0.000 Y0.600 E0.02660\n;Z 0.400\nG1 Z0.400 F7800\nM140 S60\nM104 S210\n;OBJECT 0 0\nG1 X0.200 Y0.000 F7800\nG1 F4800\nG1 X0.200 Y0.800 E0.02660\nG1 X0.600 Y0.800 F7800\nG1 F4800\nG1 X0.600 Y0.000 E0.02660\nM104 S0\nM140 S0\n\n8 s1 bye\nend 8 runs 2\n";
+    b"1 s1 load cube box = object 0\n2 s1 set perimeters 0 = ok\n3 s1 set fill_density 100% = ok\n4 s1 set skirts 0 = ok\n5 s1 apply = changed\n6 s1 start 0.slice 0\n7 s1 done 0.slice 0\n8 s1 start 0.perimeters 0\n9 s1 done 0.perimeters 0\n10 s1 start 0.prepare 0\n11 s1 done 0.prepare 0\n12 s1 start 0.infill 0\n13 s1 done 0.infill 0\n14 s1 start 0.ironing 0\n15 s1 done 0.ironing 0\n16 s1 start 0.support 0\n17 s1 done 0.support 0\n18 s1 start tower 0\n19 s1 done tower 0\n20 s1 start skirt 0\n21 s1 done skirt 0\n22 s1 start brim 0\n23 s1 done brim 0\n24 s1 start export 0\n25 s1 done export 0\n26 s1 export = gcode 409\n; headless plater\nG21\nG90\nM83\nM140 S60\nM104 S215\nM190 S60\nM109 S215\n;Z 0.200\nG1 Z0.200 F7800\n;OBJECT 0 0\nG1 X0.000 Y0.200 F7800\nG1 F4800\nG1 X0.800 Y0.200 E0.02660\nG1 X0.800 Y0.600 F7800\nG1 F4800\nG1 X0.000 Y0.600 E0.02660\n;Z 0.400\nG1 Z0.400 F7800\nM140 S60\nM104 S210\n;OBJECT 0 0\nG1 X0.200 Y0.000 F7800\nG1 F4800\nG1 X0.200 Y0.800 E0.02660\nG1 X0.600 Y0.800 F7800\nG1 F4800\nG1 X0.600 Y0.000 E0.02660\nM104 S0\nM140 S0\n\n27 s1 bye\nend 27 runs 10\n";
 
-// What is written where the box is exported twice.
-const TWO_EXPORTS: &[u8] =
-    b"1 s1 load a box = object 0\n2 s1 apply = changed\n3 s1 start 0.slice 0\n4 s1 done 0.slice 0\n5 s1 start export 0\n6 s1 done export 0\n7 s1 export = gcode 409\n; headless plater\nG21\nG90\nM83\nM140 S60\nM104 S215\nM190 S60\nM109 S215\n;Z 0.200\nG1 Z0.200 F7800\n;OBJECT 0 0\nG1 X0.000 Y0.200 F7800\nG1 F4800\nG1 X0.800 Y0.200 E0.02660\nG1 X0.800 Y0.600 F7800\nG1 F4800\nG1 X0.000 Y0.600 E0.02660\n;Z 0.400\nG1 Z0.400 F7800\nM140 S60\nM104 S210\n;OBJECT 0 0\nG1 X0.200 Y0.000 F7800\nG1 F4800\nG1 X0.200 Y0.800 E0.02660\nG1 X0.600 Y0.800 F7800\nG1 F4800\nG1 X0.600 Y0.000 E0.02660\nM104 S0\nM140 S0\n\n8 s1 apply = unchanged\n9 s1 export = gcode 409\n; headless plater\nG21\nG90\nM83\nM140 S60\nM104 S215\nM190 S60\nM109 S215\n;Z 0.200\nG1 Z0.200 F7800\n;OBJECT 0 0\nG1 X0.000 Y0.200 F7800\nG1 F4800\nG1 X0.800 Y0.200 E0.02660\nG1 X0.800 Y0.600 F7800\nG1 F4800\nG1 X0.000 Y0.600 E0.02660\n;Z 0.400\nG1 Z0.400 F7800\nM140 S60\nM104 S210\n;OBJECT 0 0\nG1 X0.200 Y0.000 F7800\nG1 F4800\nG1 X0.200 Y0.800 E0.02660\nG1 X0.600 Y0.800 F7800\nG1 F4800\nG1 X0.600 Y0.000 E0.02660\nM104 S0\nM140 S0\n\n10 s1 bye\nend 10 runs 2\n";
-
-// The command line's words.
+// The words of the command line.
 fn words(alloc: Global, words: &[&str]) -> Result<Vec<String>, Fail> {
     let mut owned = Vec::new(alloc);
     for word in words {
@@ -29,15 +29,15 @@ fn words(alloc: Global, words: &[&str]) -> Result<Vec<String>, Fail> {
     Ok(owned)
 }
 
-// The box and these commands.
-fn with_box(alloc: Global, commands: &[u8]) -> Result<Text, Fail> {
+/// The box and these commands.
+pub(crate) fn with_box(alloc: Global, commands: &[u8]) -> Result<Text, Fail> {
     let mut script = Text::copy_of(alloc, BOX)?;
     script.append(commands)?;
     Ok(script)
 }
 
-// The status of a run of this script, and what it wrote.
-fn run<R: Threads + Wait + Sync>(
+/// The status of a run of this script, which writes to the sink.
+pub(crate) fn run<R: Threads + Wait + Sync>(
     rt: &R,
     alloc: Global,
     script: Text,
@@ -57,11 +57,11 @@ struct Row {
     transcript: &'static [u8],
 }
 
-const ROWS: [Row; 10] = [
+const ROWS: [Row; 7] = [
     Row {
         name: "one box",
         with_box: true,
-        script: b"1 load cube box\n1 apply\n1 export\n",
+        script: FILLED,
         transcript: TRANSCRIPT,
     },
     Row {
@@ -80,7 +80,7 @@ const ROWS: [Row; 10] = [
         name: "a blank plate",
         with_box: false,
         script: b"plater 1\n\n# nothing yet\nworkers 0\n 1\tstatus\r\n1 cancel\n",
-        transcript: b"1 s1 status = export=invalid\n2 s1 cancel = cancelled 0\n3 s1 bye\nend 3 runs 0\n",
+        transcript: b"1 s1 status = tower=invalid skirt=invalid brim=invalid export=invalid\n2 s1 cancel = cancelled 0\n3 s1 bye\nend 3 runs 0\n",
     },
     Row {
         name: "a mesh that is cut",
@@ -99,24 +99,6 @@ const ROWS: [Row; 10] = [
         with_box: false,
         script: b"plater 1\ndata wide\nSOLID\nFacet Normal nan nan nan OUTER LOOP vertex 0 0 0 vertex 3e2 0 0 vertex 0 4 .4 EndLoop EndFacet\nENDSOLID\n.end\n1 load a wide\n1 apply\n1 export\n",
         transcript: b"1 s1 load a wide = object 0\n2 s1 apply = changed\n3 s1 export = refused OutOfBed 0 0\n4 s1 bye\nend 4 runs 0\n",
-    },
-    Row {
-        name: "two exports",
-        with_box: true,
-        script: b"1 load a box\n1 apply\n1 export\n1 apply\n1 export\n",
-        transcript: TWO_EXPORTS,
-    },
-    Row {
-        name: "two objects",
-        with_box: true,
-        script: b"1 load a box\n1 load b box\n1 apply\n1 apply\n1 status",
-        transcript: b"1 s1 load a box = object 0\n2 s1 load b box = object 1\n3 s1 apply = changed\n4 s1 apply = unchanged\n5 s1 status = 0.slice=invalid 1.slice=invalid export=invalid\n6 s1 bye\nend 6 runs 0\n",
-    },
-    Row {
-        name: "the seventeenth load",
-        with_box: true,
-        script: b"1 load a box\n1 load a box\n1 load a box\n1 load a box\n1 load a box\n1 load a box\n1 load a box\n1 load a box\n1 load a box\n1 load a box\n1 load a box\n1 load a box\n1 load a box\n1 load a box\n1 load a box\n1 load a box\n1 load a box\n",
-        transcript: b"1 s1 load a box = object 0\n2 s1 load a box = object 1\n3 s1 load a box = object 2\n4 s1 load a box = object 3\n5 s1 load a box = object 4\n6 s1 load a box = object 5\n7 s1 load a box = object 6\n8 s1 load a box = object 7\n9 s1 load a box = object 8\n10 s1 load a box = object 9\n11 s1 load a box = object 10\n12 s1 load a box = object 11\n13 s1 load a box = object 12\n14 s1 load a box = object 13\n15 s1 load a box = object 14\n16 s1 load a box = object 15\n17 s1 load a box = refused FullObjects\n18 s1 bye\nend 18 runs 0\n",
     },
 ];
 
@@ -138,21 +120,8 @@ fn scripts_give_their_transcripts(rt: HostRuntime) -> Result<(), Fail> {
     Ok(())
 }
 
-#[test]
-fn each_object_has_its_layers(rt: HostRuntime) -> Result<(), Fail> {
-    let alloc = rt.alloc();
-    let script = with_box(alloc, b"1 load a box\n1 load b box\n1 apply\n1 export\n")?;
-    let mut sink = SteadySink::new(alloc);
-    assert!(rt; run(&rt, alloc, script, &mut sink)? == Status::Done);
-    let first =
-        b"3 s1 apply = changed\n4 s1 start 0.slice 0\n5 s1 done 0.slice 0\n6 s1 start 1.slice 0\n7 s1 done 1.slice 0\n8 s1 start export 0\n9 s1 done export 0\n10 s1 export = gcode 665\n".as_slice();
-    assert!(rt; sink.held().windows(first.len()).any(|part| part == first));
-    assert!(rt; sink.held().ends_with(b"\n11 s1 bye\nend 11 runs 3\n"));
-    Ok(())
-}
-
 // A script that is refused, the line, and the fault.
-const BREACHES: [(&[u8], u32, ScriptFault); 17] = [
+const BREACHES: [(&[u8], u32, ScriptFault); 15] = [
     (b"", 1, ScriptFault::NoHead),
     (b"plater", 1, ScriptFault::NoHead),
     (b"plater 7\n", 1, ScriptFault::NoHead),
@@ -176,16 +145,10 @@ const BREACHES: [(&[u8], u32, ScriptFault); 17] = [
         ScriptFault::NoData,
     ),
     (
-        b"plater 1\n1 apply\n1 delete 0\n1 turn 0 1\n",
-        3,
-        ScriptFault::UnknownCommand,
-    ),
-    (
         b"plater 1\n1 delete 0\n1 turn 0 4\n",
         3,
         ScriptFault::BadLine,
     ),
-    (b"plater 1\n1 set notes\n", 2, ScriptFault::UnknownCommand),
 ];
 
 #[test]
@@ -249,21 +212,16 @@ fn other_words_are_usage(rt: HostRuntime) -> Result<(), Fail> {
 fn a_failing_end_has_its_status(rt: HostRuntime) -> Result<(), Fail> {
     let alloc = rt.alloc();
     let words = words(alloc, &["run"])?;
-    let commands = b"1 load cube box\n1 apply\n1 export\n";
 
     let mut sink = MemorySink::new(alloc, 64, Vec::from_slice(alloc, &[2])?);
-    let mut source = SteadySource::new(with_box(alloc, commands)?);
+    let mut source = SteadySource::new(with_box(alloc, FILLED)?);
     assert!(rt;
         plater(&rt, alloc, &words, &mut source, &mut sink, &OpenGate) == Status::WriteFault
     );
     assert!(rt; TRANSCRIPT.starts_with(sink.held()));
 
     let mut sink = SteadySink::new(alloc);
-    let mut source = MemorySource::new(
-        with_box(alloc, commands)?,
-        16,
-        Vec::from_slice(alloc, &[0])?,
-    );
+    let mut source = MemorySource::new(with_box(alloc, FILLED)?, 16, Vec::from_slice(alloc, &[0])?);
     assert!(rt; plater(&rt, alloc, &words, &mut source, &mut sink, &OpenGate) == Status::ReadFault);
     assert!(rt; sink.held().is_empty());
     Ok(())

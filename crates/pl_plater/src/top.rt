@@ -20,9 +20,9 @@ pub const LIMIT: usize = 1 << 28;
 
 /// Everything that the program does. The words are those after the program's name, and one of two is taken, alone: `run`
 /// reads a script of at most 2^28 bytes to its end, runs it and writes its transcript; `slice` reads a slice text of at
-/// most 2^28 bytes to its end and writes the G-code of its plate. Of a script's commands, `load`, `apply`, `export`,
-/// `status` and `cancel` of session 1 are served so far; the first other one is refused as an unknown command at its line,
-/// after all faults of the script.
+/// most 2^28 bytes to its end and writes the G-code of its plate. A script is taken without workers, with session 1 alone and
+/// without `after`, as `read_script` says; its commands are made in order on the calling thread, and there is one history
+/// that they can have.
 pub fn plater<Runtime: Threads + Wait + Sync, S: Source, K: Sink, G: Gate + Sync>(
     rt: &Runtime,
     alloc: Global,
@@ -39,8 +39,8 @@ pub fn plater<Runtime: Threads + Wait + Sync, S: Source, K: Sink, G: Gate + Sync
     // Where the source tells its bytes: Done exactly for inputs of the command, and each refusal for its cause alone.
     ensures answer { OnTask words.now (λ task. IfSome (S.left source.old) (Answers task result)) }
 
-    // Done: what was written is the transcript of a legal history that is complete for the script, or the G-code of the
-    // plate, and all was read.
+    // Done: what was written is the transcript of the one legal history that is complete for the script, or the G-code of
+    // the plate, and all was read.
     ensures done { result ≡ Status.Done → OnTask words.now (λ task. IfSome (S.left source.old) (λ bytes. Writes task bytes (K.held sink.old) (K.held sink.new))) }
     ensures read_to_end { result ≡ Status.Done → IsAtEnd (S.left source.new) }
 

@@ -1,8 +1,7 @@
 use Rattle.std.proofs.Common.{◌≡◌, ◌⊎◌, Err, ap, subst}
 use Rattle.pl_plater.specs.declared.words.Task.TheVariants.{Slice}
 use Rattle.pl_plater.specs.Headline.{Answers, Writes, WritesFront}
-use Rattle.pl_ports.specs.Causes.{Rose}
-use Rattle.pl_plater.proofs.Tops.{completes, whole_text, answers_stop}
+use Rattle.pl_plater.proofs.Tops.{whole_text, answers_stop}
 use Rattle.pl_plater.proofs.slice.slice_once.Goals as goal
 
 pub returns-in-Ok-clause-answer : goal.returns-in-Ok-clause-answer

@@ -1,5 +1,5 @@
-use Rattle.pl_plater.proofs.Served.{waits_of, own_of}
-use Rattle.pl_plater.proofs.commands.served_commands.Goals as goal
+use Rattle.pl_plater.proofs.Sessions.{waits_of, own_of}
+use Rattle.pl_plater.proofs.commands.commands_of.Goals as goal
 
 pub returns-clause-own : goal.returns-clause-own
 returns-clause-own c = own_of _ c.args.lines c.in_ok-commands.ensures.commands c.requires

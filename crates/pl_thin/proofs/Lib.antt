@@ -1,4 +1,0 @@
-pub mod Filled
-pub mod Filtered
-pub mod Prints
-pub mod Slicings
