@@ -4,15 +4,13 @@ ghost use Rattle.pl_ports.specs.Scripted.{probe_polls, probe_raised};
 ghost use Rattle.pl_fill.specs.Surfaces.{HaveEqualBoxes};
 
 use crate::{
-    gcode_batches, infill_batches, ironing_batches, perimeter_batches, slice_batches,
-    support_batches, surface_batches, tool_batches,
+    infill_batches, ironing_batches, perimeter_batches, slice_batches, support_batches,
+    surface_batches, tool_batches,
 };
 use pl_edit::{Block, Edit, ValueText};
-use pl_gcode::Parts;
-use pl_grid::{Box2, Corner, Loop, Plane, Planes, Stroke};
+use pl_grid::{Box2, Plane, Planes};
 use pl_layers::Heights;
 use pl_model::Plate;
-use pl_options::Config;
 use pl_ports::ScriptedProbe;
 use pl_prints::{ObjectLayers, tops};
 use pl_steps::{StrokeLists, SupportSet, Surfaces};
@@ -347,116 +345,6 @@ fn each_height_has_its_tools(rt: HostRuntime) -> Result<(), Fail> {
         return Err(NoMemory.into());
     };
     assert!(rt; are_tools(&found, &[&[0, 1], &[0], &[1]]));
-    assert_eq!(rt; probe.polls(), 1);
-    Ok(())
-}
-
-static HEIGHTS: [Nm; 2] = [Nm(200_000), Nm(400_000)];
-
-// A print of two heights at which nothing is printed.
-#[derive(Drop)]
-struct Bare {
-    config: Config,
-}
-
-impl Parts for Bare {
-    ghost use Rattle.pl_gcode.specs.SettingsOf.{settings_of};
-    ghost use Rattle.std.specs.Prelude.{None};
-
-    ghost print = { λ s. record {
-      settings = settings_of s.config;
-      heights = record { 0 = pos 200000 } ∷ record { 0 = pos 400000 } ∷ [];
-      tools = λ _. 0 ∷ [];
-      block = λ _ _. [];
-      skirt = [];
-      brim = [];
-      places = [];
-      tool = λ _. 0;
-      instances = λ _. [];
-      layers = λ _. 0;
-      layer_at = λ _ _. None;
-      layer_height = λ _ _. record { 0 = pos 200000 };
-      loops = λ _ _. [];
-      infill = λ _ _. [];
-      ironing = λ _ _. [];
-      support = λ _ _. [];
-    } };
-
-    fn config(&self) -> &Config {
-        &self.config
-    }
-
-    fn heights(&self) -> &[Nm] {
-        &HEIGHTS
-    }
-
-    fn tools(&self, _: u32) -> &[u8] {
-        &[0]
-    }
-
-    fn block(&self, _: u32, _: u8) -> &[Stroke] {
-        &[]
-    }
-
-    fn skirt(&self) -> &[Loop] {
-        &[]
-    }
-
-    fn brim(&self) -> &[Loop] {
-        &[]
-    }
-
-    fn places(&self) -> &[u8] {
-        &[]
-    }
-
-    fn tool(&self, _: u8) -> u8 {
-        0
-    }
-
-    fn instances(&self, _: u8) -> &[Corner] {
-        &[]
-    }
-
-    fn layer_at(&self, _: u8, _: u32) -> Option<u32> {
-        None
-    }
-
-    fn layer_height(&self, _: u8, _: u32) -> Nm {
-        Nm(200_000)
-    }
-
-    fn loops(&self, _: u8, _: u32) -> &[Loop] {
-        &[]
-    }
-
-    fn infill(&self, _: u8, _: u32) -> &[Stroke] {
-        &[]
-    }
-
-    fn ironing(&self, _: u8, _: u32) -> &[Stroke] {
-        &[]
-    }
-
-    fn support(&self, _: u8, _: u32) -> &[Stroke] {
-        &[]
-    }
-}
-
-static BARE_TEXT: &[u8] =
-    b"; headless plater\nG21\nG90\nM83\nM140 S60\nM104 S215\nM190 S60\nM109 S215\n;Z 0.200\nG1 Z0.200 F7800\n;Z 0.400\nG1 Z0.400 F7800\nM140 S60\nM104 S210\nM104 S0\nM140 S0\n";
-
-#[test]
-fn two_heights_are_written_after_one_poll(rt: HostRuntime) -> Result<(), Fail> {
-    let alloc = rt.alloc();
-    let parts = Bare {
-        config: Config::defaults(alloc)?,
-    };
-    let mut probe = answering(alloc, &[])?;
-    let Ran::Done(text) = gcode_batches(alloc, &parts, &mut probe)? else {
-        return Err(NoMemory.into());
-    };
-    assert_eq!(rt; text.bytes(), BARE_TEXT);
     assert_eq!(rt; probe.polls(), 1);
     Ok(())
 }
