@@ -1,0 +1,20 @@
+use Rattle.std.proofs.Common.{arith, ap, ◌∙◌}
+use Rattle.pl_turn.proofs.Drawing.{confirms}
+use Rattle.pl_turn.proofs.Joining.{joins_pass}
+use Rattle.pl_turn.proofs.lock.TurnLock.join.Goals as goal
+
+pub join_seat-requires : goal.join_seat-requires
+join_seat-requires g c = let sized = c.args.self.now.sized in let idle = c.args.pass.now.idle in let rests = c.args.other.idle in (
+  c.requires.lock.0,
+  c.requires.other_lock.0,
+  rests.2,
+  omega arith,
+  joins_pass _ _ _ _ c.args.pass.now.seat.id c.args.pass.now.seat.me.0 c.args.other.seat.id c.args.other.seat.me.0 idle.0 rests.0 idle.1 rests.1 c.requires.not_first,
+)
+
+pub load-requires : goal.load-requires
+load-requires g c = let sized = c.args.self.now.sized in (
+  c.join_seat.ensures.0 ∙ c.requires.lock.0,
+  omega arith,
+  confirms _ _ _ _ _ _ _ (ap (λ m. m.0.live) c.join_seat.ensures.2 ∙ c.args.pass.now.idle.0),
+)

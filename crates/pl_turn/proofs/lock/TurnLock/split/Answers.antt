@@ -1,0 +1,18 @@
+use Rattle.std.proofs.Common.{arith, ap, ◌∙◌}
+use Rattle.pl_turn.proofs.Splitting.{splits_pass}
+use Rattle.pl_turn.proofs.Drawing.{confirms}
+use Rattle.pl_turn.proofs.lock.TurnLock.split.Goals as goal
+
+pub split_seat-seat-requires : goal.split_seat-seat-requires
+split_seat-seat-requires g c = let sized = c.args.self.now.sized in let idle = c.args.pass.now.idle in (
+  c.requires.lock.0,
+  omega arith,
+  splits_pass _ _ _ _ c.args.pass.now.seat.id c.args.pass.now.seat.me.0 idle.0 c.requires.first idle.1,
+)
+
+pub load-requires : goal.load-requires
+load-requires g c = let sized = c.args.self.now.sized in (
+  c.split_seat-seat.ensures.3 ∙ c.requires.lock.0,
+  omega arith,
+  confirms _ _ _ _ _ _ _ (ap (λ m. m.0.live) c.split_seat-seat.ensures.4),
+)

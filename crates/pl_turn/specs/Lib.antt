@@ -1,0 +1,6 @@
+pub mod History
+pub mod Rule
+pub mod Steps
+pub mod Passes
+pub mod Turns
+pub mod Lends
