@@ -2,3 +2,4 @@ pub mod Stands
 pub mod Commands
 pub mod Clearing
 pub mod Closing
+mod Joining

@@ -7,6 +7,9 @@ pub mod plant;
 #[cfg(test)]
 mod tests;
 pub mod ticket;
+#[cfg(test)]
+mod turn_tests;
+mod turned;
 
 pub use plant::Plant;
 pub use ticket::{Begun, Ticket};
