@@ -1,0 +1,5 @@
+//! Trials of crates together: a plant over the technology of real prints.
+#![tactic(auto)]
+
+#[cfg(test)]
+mod plants;
