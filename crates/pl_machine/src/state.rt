@@ -362,8 +362,8 @@ impl<T: Technology> State<T> {
         count
     }
 
-    // The slots that are started.
-    fn stoppable(&self) -> SlotSet
+    /// The slots that are started. A cancel makes them Invalid.
+    pub fn stoppable(&self) -> SlotSet
         ensures { (k : ℕ) → has result k ≡ is_started (mode_of self.now k) }
     {
         let _ = &self.modes;
@@ -541,7 +541,7 @@ impl<T: Technology> State<T> {
     /// and has made fewer than 2^32 - 1 calls. Where the export is to hand out the result of slot 99, it is given. `NotYet` is
     /// the answer exactly for an export of a plate without problem that lacks a result, `Behind` exactly for a wait for a
     /// session that has made too few calls; both change nothing, and so does want of memory, of which a status, a cancel and a
-    /// wait have none.
+    /// wait have none. No slot's epoch was at its type's end.
     pub fn call(
         &mut self,
         alloc: Global,
@@ -558,6 +558,7 @@ impl<T: Technology> State<T> {
         ensures state { IfOk result (λ a. MatchAnswer a (λ _. self.new ≡ called (after_command T.meaning self.old (arc_value command.now)) session) (λ _. self.new ≡ self.old) (λ _. self.new ≡ self.old)) }
         ensures err { OnErr result (self.new ≡ self.old) }
         ensures memory { OnErr result (TakesMemory (arc_value command.now)) }
+        ensures room { (k : ℕ) → epoch_of self.old k < 2 ^ 64 - 1 }
     {
         let _ = &self.modes;
         self.make(alloc, session, command, export)

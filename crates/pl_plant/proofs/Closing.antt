@@ -16,9 +16,9 @@ use Rattle.pl_plant.specs.Planted.{Planted, StandsFor}
 use Rattle.pl_plant.specs.Tickets.{TicketStands}
 
 module _ {T P E R O J B : Type 0} (m : Meaning P E R O) (laws : IsLawful m) (job_value : J → O) where
-  pub tells : {seen now : Planted T P E R O J B} → seen ≡ now → (t : Ticket T P E R O J B) → StandsFor m seen.state seen.journal seen.kept → TicketStands m job_value now.journal t
+  pub tells : {seen now : Planted T P E R O J B} → seen ≡ now → (counts : List ℕ) (t : Ticket T P E R O J B) → StandsFor m seen.state seen.journal seen.kept counts → TicketStands m job_value now.journal t
       → TicketTells m seen.state t.actor t.slot t.epoch (job_value t.job.value)
-  tells {seen} same t stands ticket =
+  tells {seen} same counts t stands ticket =
       let here : TicketStands m job_value seen.journal t = subst (λ p. TicketStands m job_value p.journal t) (sym same) ticket in
       subst (λ s. TicketTells m s t.actor t.slot t.epoch (job_value t.job.value)) (sym stands.replayed)
       (ticket_tells m laws seen.journal t.actor t.slot t.epoch (job_value t.job.value) stands.legal here)

@@ -78,7 +78,7 @@ module _ {P E R O : Type 0} (m : Meaning P E R O) (laws : IsLawful m) where
   keeps-command st (After s n) i old new present after done = subst (KeepsDone m (called st i)) (sym after) (record { keeps = done.keeps; keeps_no_other = done.keeps_no_other })
 
   -- where both plates are equal, an apply makes no slot Invalid
-  none_hit : (st : Machine P) (k : ℕ) → m.same st.applied st.edited ≡ true → is_hit m st k ≡ false
+  pub none_hit : (st : Machine P) (k : ℕ) → m.same st.applied st.edited ≡ true → is_hit m st k ≡ false
   none_hit st k same = ap (λ t. t && not (is_invalid (mode_of st k))) (laws.same_untouched st.applied st.edited same k)
 
   -- an apply that names no fallen slot leaves what is kept
@@ -86,10 +86,10 @@ module _ {P E R O : Type 0} (m : Meaning P E R O) (laws : IsLawful m) where
   nothing_falls st old new same none k low = ap (λ l. kept_at l k) same ∙ ap (λ v. cond v None (kept_at old k)) (sym (none k low))
 
   module _ {T J B : Type 0} where
-    pub stands-called : (st : Machine P) (js : List (Entry T P E R O J B)) (old new : List (Option O)) (i : ℕ) (c : Command E) (r : Reply T P E R O J B)
-        → MayCall st i → Replies m st c r → KeepsAfter m st c old new → StandsFor m st js old
-        → StandsFor m (called (after_command m st c) i) (js ++ record { actor = Session i; what = Call c r } ∷ []) new
-    stands-called st js old new i c r may replies after stands =
+    pub stands-called : {counts raised : List ℕ} (st : Machine P) (js : List (Entry T P E R O J B)) (old new : List (Option O)) (i : ℕ) (c : Command E) (r : Reply T P E R O J B)
+        → MayCall st i → Replies m st c r → KeepsAfter m st c old new → raised ≡ (after_command m st c).epochs → StandsFor m st js old counts
+        → StandsFor m (called (after_command m st c) i) (js ++ record { actor = Session i; what = Call c r } ∷ []) new raised
+    stands-called st js old new i c r may replies after rise stands =
         let held : HeldArePresent m laws st = subst (HeldArePresent m laws) (sym stands.replayed) (run_present m laws (blank m) js stands.legal (blank_present m laws)) in
         let kept = keeps-command st c i old new held after (record { keeps = stands.keeps; keeps_no_other = stands.keeps_no_other }) in
         record {
@@ -97,6 +97,7 @@ module _ {P E R O : Type 0} (m : Meaning P E R O) (laws : IsLawful m) where
           replayed = ap (λ s. called (after_command m s c) i) stands.replayed ∙ sym (replay_from-append m (blank m) js entry);
           keeps = kept.keeps;
           keeps_no_other = kept.keeps_no_other;
+          counted = rise;
         }
       where
         entry : Entry T P E R O J B
@@ -132,8 +133,8 @@ lent_value (Some x) owner is = ap (option_map arc_value) is
 
 module _ {T P E R O J B : Type 0} (m : Meaning P E R O) where
   -- what is kept for slot 99 is what an export hands out
-  is_given : (st : Machine P) (js : List (Entry T P E R O J B)) (kept : List (Option O)) (c : Command E) (given : Option O)
-      → StandsFor m st js kept → IsLastGiven c kept given → IsGiven m st c given
+  is_given : {counts : List ℕ} (st : Machine P) (js : List (Entry T P E R O J B)) (kept : List (Option O)) (c : Command E) (given : Option O)
+      → StandsFor m st js kept counts → IsLastGiven c kept given → IsGiven m st c given
   is_given st js kept Export given stands is = λ none done. is ∙ stands.keeps 99 (omega arith) done
   is_given st js kept (Edit e) given stands is = tt
   is_given st js kept Apply given stands is = tt
@@ -141,8 +142,8 @@ module _ {T P E R O J B : Type 0} (m : Meaning P E R O) where
   is_given st js kept Cancel given stands is = tt
   is_given st js kept (After s n) given stands is = tt
 
-  pub is_lent : {Z : Type 0} (st : Machine P) (js : List (Entry T P E R O J B)) (kept : List (Option O)) (c : Command E) (lent : Option (Bor (Arc O Z))) (owner : Option (Arc O Z))
-      → StandsFor m st js kept → option_copied lent ≡ owner → IsLastGiven c kept (option_map arc_value owner) → IsGiven m st c (option_map (λ x. arc_value x.now) lent)
+  pub is_lent : {Z : Type 0} {counts : List ℕ} (st : Machine P) (js : List (Entry T P E R O J B)) (kept : List (Option O)) (c : Command E) (lent : Option (Bor (Arc O Z))) (owner : Option (Arc O Z))
+      → StandsFor m st js kept counts → option_copied lent ≡ owner → IsLastGiven c kept (option_map arc_value owner) → IsGiven m st c (option_map (λ x. arc_value x.now) lent)
   is_lent st js kept c lent owner stands same is = subst (IsGiven m st c) (sym (lent_value lent owner same)) (is_given st js kept c (option_map arc_value owner) stands is)
 
   -- the result that a reply hands out is the one that was given
@@ -162,6 +163,6 @@ module _ {T P E R O J B : Type 0} (m : Meaning P E R O) where
   handed_out st c (Refused p) given is replies = tt
   handed_out st c Passed given is replies = tt
 
-  pub is_handed_out : (st : Machine P) (js : List (Entry T P E R O J B)) (kept : List (Option O)) (c : Command E) (r : Reply T P E R O J B) (given : Option O)
-      → StandsFor m st js kept → IsLastGiven c kept given → Replies m st c r → IsHandedOut r given
+  pub is_handed_out : {counts : List ℕ} (st : Machine P) (js : List (Entry T P E R O J B)) (kept : List (Option O)) (c : Command E) (r : Reply T P E R O J B) (given : Option O)
+      → StandsFor m st js kept counts → IsLastGiven c kept given → Replies m st c r → IsHandedOut r given
   is_handed_out st js kept c r given stands is replies = handed_out st c r given (is_given st js kept c given stands is) replies

@@ -35,17 +35,18 @@ is_place modes k a is = elim (cases_lt k (length modes)) [
 ]
 
 module _ {T P E R O J B : Type 0} (m : Meaning P E R O) where
-  pub stands-new : StandsFor {T = T} {J = J} {B = B} m (blank m) [] (replicate 100 None)
+  pub stands-new : StandsFor {T = T} {J = J} {B = B} m (blank m) [] (replicate 100 None) (replicate 100 0)
   stands-new = record {
     legal = tt;
     replayed = refl;
     keeps = λ k low is. absurd (let e : Invalid ≡ Done = sym (get_or-replicate 100 k Invalid Invalid low) ∙ is in cc);
     keeps_no_other = λ k low ne. get_or-replicate 100 k None None low;
+    counted = refl;
   }
 
-  pub stands-started : (st : Machine P) (js : List (Entry T P E R O J B)) (kept : List (Option O)) (actor : Actor) (slot e : ℕ)
-      → Starts m st actor slot e → StandsFor m st js kept → StandsFor m (started st actor slot e) (js ++ start_of actor slot e ∷ []) kept
-  stands-started st js kept actor slot e starts stands = record {
+  pub stands-started : (st : Machine P) (js : List (Entry T P E R O J B)) (kept : List (Option O)) (counts : List ℕ) (actor : Actor) (slot e : ℕ)
+      → Starts m st actor slot e → StandsFor m st js kept counts → StandsFor m (started st actor slot e) (js ++ start_of actor slot e ∷ []) kept counts
+  stands-started st js kept counts actor slot e starts stands = record {
     legal = run_goes_on m (blank m) js (start_of actor slot e) stands.legal (subst (λ s. Starts m s actor slot e) stands.replayed starts);
     replayed = ap (λ s. started s actor slot e) stands.replayed ∙ sym (replay_from-append m (blank m) js (start_of actor slot e));
     keeps = λ k low is. elim (eqb_tells k slot) [
@@ -56,12 +57,13 @@ module _ {T P E R O J B : Type 0} (m : Meaning P E R O) where
       | inl same ↦ stands.keeps_no_other k low (λ d. let e : Invalid ≡ Done = sym starts.can.invalid ∙ ap (mode_of st) (sym same.1) ∙ d in cc)
       | inr other ↦ stands.keeps_no_other k low (λ d. ne (get_or-set_other st.modes slot k (Started actor) Invalid other.1 ∙ d))
     ];
+    counted = stands.counted;
   }
 
-  pub stands-finished : (st : Machine P) (js : List (Entry T P E R O J B)) (kept : List (Option O)) (actor : Actor) (slot e : ℕ) → length kept ≡ 100 → slot < 100
-      → Finishes st actor slot e → StandsFor m st js kept
-      → StandsFor m (finished st actor slot) (js ++ record { actor = actor; what = Finish slot e } ∷ []) (set kept slot (Some (m.value st.applied slot)))
-  stands-finished st js kept actor slot e long low fin stands = record {
+  pub stands-finished : (st : Machine P) (js : List (Entry T P E R O J B)) (kept : List (Option O)) (counts : List ℕ) (actor : Actor) (slot e : ℕ) → length kept ≡ 100 → slot < 100
+      → Finishes st actor slot e → StandsFor m st js kept counts
+      → StandsFor m (finished st actor slot) (js ++ record { actor = actor; what = Finish slot e } ∷ []) (set kept slot (Some (m.value st.applied slot))) counts
+  stands-finished st js kept counts actor slot e long low fin stands = record {
     legal = run_goes_on m (blank m) js entry stands.legal (subst (λ s. Finishes s actor slot e) stands.replayed fin);
     replayed = ap (λ s. finished s actor slot) stands.replayed ∙ sym (replay_from-append m (blank m) js entry);
     keeps = λ k lk is. elim (eqb_tells k slot) [
@@ -75,41 +77,44 @@ module _ {T P E R O J B : Type 0} (m : Meaning P E R O) where
       | inr other ↦ get_or-set_other kept slot k (Some (m.value st.applied slot)) None other.1
           ∙ stands.keeps_no_other k lk (λ d. ne (get_or-set_other st.modes slot k Done Invalid other.1 ∙ d))
     ];
+    counted = stands.counted;
   }
     where
       entry : Entry T P E R O J B
       entry = record { actor = actor; what = Finish slot e }
 
-  pub stands-freed : (st : Machine P) (js : List (Entry T P E R O J B)) (kept : List (Option O)) (actor : Actor) (slot since now : ℕ)
-      → Drops st actor slot since now → StandsFor m st js kept
-      → StandsFor m (freed st actor) (js ++ record { actor = actor; what = Late slot since now } ∷ []) kept
-  stands-freed st js kept actor slot since now drops stands = record {
+  pub stands-freed : (st : Machine P) (js : List (Entry T P E R O J B)) (kept : List (Option O)) (counts : List ℕ) (actor : Actor) (slot since now : ℕ)
+      → Drops st actor slot since now → StandsFor m st js kept counts
+      → StandsFor m (freed st actor) (js ++ record { actor = actor; what = Late slot since now } ∷ []) kept counts
+  stands-freed st js kept counts actor slot since now drops stands = record {
     legal = run_goes_on m (blank m) js entry stands.legal (subst (λ s. Drops s actor slot since now) stands.replayed drops);
     replayed = ap (λ s. freed s actor) stands.replayed ∙ sym (replay_from-append m (blank m) js entry);
     keeps = stands.keeps;
     keeps_no_other = stands.keeps_no_other;
+    counted = stands.counted;
   }
     where
       entry : Entry T P E R O J B
       entry = record { actor = actor; what = Late slot since now }
 
-  pub stands-left : (st : Machine P) (js : List (Entry T P E R O J B)) (kept : List (Option O)) (i : ℕ)
-      → MayCall st i → StandsFor m st js kept
-      → StandsFor m (without st i) (js ++ record { actor = Session i; what = Bye } ∷ []) kept
-  stands-left st js kept i may stands = record {
+  pub stands-left : (st : Machine P) (js : List (Entry T P E R O J B)) (kept : List (Option O)) (counts : List ℕ) (i : ℕ)
+      → MayCall st i → StandsFor m st js kept counts
+      → StandsFor m (without st i) (js ++ record { actor = Session i; what = Bye } ∷ []) kept counts
+  stands-left st js kept counts i may stands = record {
     legal = run_goes_on m (blank m) js entry stands.legal (subst (λ s. MayCall s i) stands.replayed may);
     replayed = ap (λ s. without s i) stands.replayed ∙ sym (replay_from-append m (blank m) js entry);
     keeps = stands.keeps;
     keeps_no_other = stands.keeps_no_other;
+    counted = stands.counted;
   }
     where
       entry : Entry T P E R O J B
       entry = record { actor = Session i; what = Bye }
 
   -- a start that is the journal's last entry stands in it
-  pub stands_in-started : (st : Machine P) (js : List (Entry T P E R O J B)) (kept : List (Option O)) (actor : Actor) (slot e : ℕ) (value : O)
-      → StandsFor m st js kept → value ≡ m.value st.applied slot → StandsIn m (js ++ start_of actor slot e ∷ []) actor slot e value
-  stands_in-started st js kept actor slot e value stands is = record {
+  pub stands_in-started : (st : Machine P) (js : List (Entry T P E R O J B)) (kept : List (Option O)) (counts : List ℕ) (actor : Actor) (slot e : ℕ) (value : O)
+      → StandsFor m st js kept counts → value ≡ m.value st.applied slot → StandsIn m (js ++ start_of actor slot e ∷ []) actor slot e value
+  stands_in-started st js kept counts actor slot e value stands is = record {
     before = js;
     rest = [];
     split = sym (append-nil (js ++ start_of actor slot e ∷ []));

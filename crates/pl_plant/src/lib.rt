@@ -4,6 +4,7 @@
 mod entries;
 mod keeping;
 pub mod plant;
+mod raising;
 #[cfg(test)]
 mod tests;
 pub mod ticket;

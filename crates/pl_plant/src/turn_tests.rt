@@ -1,10 +1,12 @@
 //! A plant under the turn lock.
 ghost use Rattle.std.specs.Prelude.{◌≡◌, [], IfOk, MatchOption};
+ghost use Rattle.pl_epochs.specs.Words.{table_of};
 ghost use Rattle.pl_machine.specs.Calls.{NamesSession};
 ghost use Rattle.pl_plant.specs.Turned.{GrewBy};
-ghost use Rattle.pl_turn.specs.Passes.{number, joined, splits, AreOfOne, IsOf};
+ghost use Rattle.pl_turn.specs.Passes.{home_of, number, joined, splits, AreOfOne, IsOf};
 
 use crate::Plant;
+use pl_epochs::EpochTable;
 use pl_machine::{Actor, Answer, Command, Entry, Reply};
 use pl_tech::{Technology, Toy, ToyEdit};
 use pl_turn::{Pass, TurnLock};
@@ -16,15 +18,17 @@ use std::test::Fail;
 use std::thread;
 use std::thread::{Promise, Threads};
 
-// A lock round a blank plant.
-fn opened(alloc: Global) -> Result<(TurnLock<Plant<Toy>>, Pass<Plant<Toy>>), NoMemory>
-    ensures lock { IfOk result (λ r. IsOf r.0 r.1) }
-    ensures number { IfOk result (λ r. number r.1 ≡ 1) }
-    ensures joined { IfOk result (λ r. joined r.1 ≡ []) }
-    ensures splits { IfOk result (λ r. splits r.1 ≡ 0) }
+// A table of epochs, and a lock round a blank plant that writes its words.
+fn opened(alloc: Global) -> Result<(EpochTable, TurnLock<Plant<Toy>>, Pass<Plant<Toy>>), NoMemory>
+    ensures home { IfOk result (λ r. home_of (λ p. p.home) r.1 ≡ table_of r.0) }
+    ensures lock { IfOk result (λ r. IsOf r.1 r.2) }
+    ensures number { IfOk result (λ r. number r.2 ≡ 1) }
+    ensures joined { IfOk result (λ r. joined r.2 ≡ []) }
+    ensures splits { IfOk result (λ r. splits r.2 ≡ 0) }
 {
-    match TurnLock::new(alloc, Plant::<Toy>::new(alloc)?) {
-        Ok(both) => Ok(both),
+    let (epochs, writer, _) = EpochTable::new(alloc)?;
+    match TurnLock::new(alloc, Plant::<Toy>::new(alloc, writer)?) {
+        Ok((lock, pass)) => Ok((epochs, lock, pass)),
         Err(_) => Err(NoMemory),
     }
 }
@@ -33,18 +37,21 @@ fn opened(alloc: Global) -> Result<(TurnLock<Plant<Toy>>, Pass<Plant<Toy>>), NoM
 fn ask<T: Technology>(
     plant: &mut Plant<T>,
     alloc: Global,
+    epochs: &EpochTable,
     session: u8,
     command: Command<T::Edit>,
 ) -> Option<Answer<T>>
-    requires { NamesSession command }
-    ensures { MatchOption result (plant.new.journal ≡ plant.old.journal) (λ _. GrewBy session plant.old.journal plant.new.journal) }
+    requires names { NamesSession command }
+    requires home { plant.old.home ≡ table_of epochs.now }
+    ensures home { plant.new.home ≡ plant.old.home }
+    ensures journal { MatchOption result (plant.new.journal ≡ plant.old.journal) (λ _. GrewBy session plant.old.journal plant.new.journal) }
 {
     plant.reserve().ok()?;
     if !plant.may_call(session) || plant.calls(session) == u32::MAX {
         return None;
     }
     let command = Arc::new(alloc, command).ok()?;
-    match plant.call(alloc, session, command).ok()? {
+    match plant.call(alloc, epochs, session, command).ok()? {
         Answer::Now(reply) => Some(Answer::Now(reply)),
         _ => None,
     }
@@ -54,6 +61,7 @@ fn ask<T: Technology>(
 fn call<T: Technology, R: Wait>(
     rt: &R,
     alloc: Global,
+    epochs: &EpochTable,
     lock: &TurnLock<Plant<T>>,
     pass: Pass<Plant<T>>,
     session: u8,
@@ -61,6 +69,7 @@ fn call<T: Technology, R: Wait>(
 ) -> (Option<Answer<T>>, Pass<Plant<T>>)
     requires lock { IsOf lock.now pass }
     requires number { number pass ≡ session }
+    requires home { home_of (λ p. p.home) lock.now ≡ table_of epochs.now }
     requires names { NamesSession command }
     ensures lock { AreOfOne pass result.1 }
     ensures number { number result.1 ≡ number pass }
@@ -68,7 +77,7 @@ fn call<T: Technology, R: Wait>(
     ensures splits { splits result.1 ≡ splits pass }
 {
     let mut turn = lock.take(rt, pass);
-    match ask(turn.value(), alloc, session, command) {
+    match ask(turn.value(), alloc, epochs, session, command) {
         Some(answer) => (Some(answer), turn.end_with()),
         None => (None, turn.end()),
     }
@@ -78,12 +87,14 @@ fn call<T: Technology, R: Wait>(
 fn edit_ten<R: Wait>(
     rt: &R,
     alloc: Global,
+    epochs: &EpochTable,
     lock: &TurnLock<Plant<Toy>>,
     mut pass: Pass<Plant<Toy>>,
     session: u8,
 ) -> Pass<Plant<Toy>>
     requires lock { IsOf lock.now pass }
     requires number { number pass ≡ session }
+    requires home { home_of (λ p. p.home) lock.now ≡ table_of epochs.now }
     ensures lock { AreOfOne pass result }
     ensures number { number result ≡ number pass }
     ensures joined { joined result ≡ joined pass }
@@ -91,7 +102,7 @@ fn edit_ten<R: Wait>(
 {
     for value in 0..10u32 {
         let edit = Command::Edit(ToyEdit::SetA(value));
-        let (_, next) = call(rt, alloc, lock, pass, session, edit);
+        let (_, next) = call(rt, alloc, epochs, lock, pass, session, edit);
         pass = next;
     }
     pass
@@ -111,10 +122,12 @@ impl Promise<Pass<Plant<Toy>>> for Began {
 fn both_edit<R: Threads + Wait + Sync>(
     rt: &R,
     alloc: Global,
+    epochs: &EpochTable,
     lock: &TurnLock<Plant<Toy>>,
     first: Pass<Plant<Toy>>,
     second: Pass<Plant<Toy>>,
 ) -> Result<(Pass<Plant<Toy>>, Pass<Plant<Toy>>), AllocError>
+    requires home { home_of (λ p. p.home) lock.now ≡ table_of epochs.now }
     requires first { IsOf lock.now first × (number first ≡ 1) }
     requires second { IsOf lock.now second × (number second ≡ 2) }
     ensures first { IfOk result (λ r. AreOfOne first r.0 × (number r.0 ≡ 1) × (joined r.0 ≡ joined first) × (splits r.0 ≡ splits first)) }
@@ -124,6 +137,7 @@ fn both_edit<R: Threads + Wait + Sync>(
         thread::scope_env(),
         rt,
         move |scope| -> Result<(Pass<Plant<Toy>>, Pass<Plant<Toy>>), AllocError>
+            requires home { home_of (λ p. p.home) lock.now ≡ table_of epochs.now }
             requires first { IsOf lock.now first × (number first ≡ 1) }
             requires second { IsOf lock.now second × (number second ≡ 2) }
             ensures first { IfOk result (λ r. AreOfOne first r.0 × (number r.0 ≡ 1) × (joined r.0 ≡ joined first) × (splits r.0 ≡ splits first)) }
@@ -135,9 +149,10 @@ fn both_edit<R: Threads + Wait + Sync>(
             let one = scope.spawn_with(
                 began,
                 move || -> Pass<Plant<Toy>>
-                    requires { IsOf lock.now first × (number first ≡ 1) }
+                    requires home { home_of (λ p. p.home) lock.now ≡ table_of epochs.now }
+                    requires pass { IsOf lock.now first × (number first ≡ 1) }
                     ensures { AreOfOne first result × (number result ≡ number first) × (joined result ≡ joined first) × (splits result ≡ splits first) }
-                { edit_ten(rt, alloc, lock, first, 1) },
+                { edit_ten(rt, alloc, epochs, lock, first, 1) },
             )?;
             let began = Began {
                 before: Snapshot::of(&second),
@@ -145,9 +160,10 @@ fn both_edit<R: Threads + Wait + Sync>(
             let other = scope.spawn_with(
                 began,
                 move || -> Pass<Plant<Toy>>
-                    requires { IsOf lock.now second × (number second ≡ 2) }
+                    requires home { home_of (λ p. p.home) lock.now ≡ table_of epochs.now }
+                    requires pass { IsOf lock.now second × (number second ≡ 2) }
                     ensures { AreOfOne second result × (number result ≡ number second) × (joined result ≡ joined second) × (splits result ≡ splits second) }
-                { edit_ten(rt, alloc, lock, second, 2) },
+                { edit_ten(rt, alloc, epochs, lock, second, 2) },
             )?;
             Ok((one.join(rt), other.join(rt)))
         },
@@ -165,11 +181,11 @@ fn entries_of(journal: &[Entry<Toy>], session: u8) -> usize {
 #[test]
 fn two_passes_make_a_call_each(rt: HostRuntime) -> Result<(), Fail> {
     let alloc = rt.alloc();
-    let (lock, mut first) = opened(alloc)?;
+    let (epochs, lock, mut first) = opened(alloc)?;
     let second = lock.split(&mut first);
     let edit = Command::Edit(ToyEdit::SetA(5));
-    let (edited, mut first) = call(&rt, alloc, &lock, first, 1, edit);
-    let (applied, second) = call(&rt, alloc, &lock, second, 2, Command::Apply);
+    let (edited, mut first) = call(&rt, alloc, &epochs, &lock, first, 1, edit);
+    let (applied, second) = call(&rt, alloc, &epochs, &lock, second, 2, Command::Apply);
     lock.join(&mut first, second);
     let plant = lock.close(first);
     assert!(rt; matches!(edited, Some(Answer::Now(Reply::Edited(())))));
@@ -183,9 +199,9 @@ fn two_passes_make_a_call_each(rt: HostRuntime) -> Result<(), Fail> {
 #[test]
 fn two_threads_make_ten_edits_each(rt: HostRuntime) -> Result<(), Fail> {
     let alloc = rt.alloc();
-    let (lock, mut first) = opened(alloc)?;
+    let (epochs, lock, mut first) = opened(alloc)?;
     let second = lock.split(&mut first);
-    let (mut first, second) = both_edit(&rt, alloc, &lock, first, second)?;
+    let (mut first, second) = both_edit(&rt, alloc, &epochs, &lock, first, second)?;
     lock.join(&mut first, second);
     let plant = lock.close(first);
     let journal = plant.into_journal();

@@ -4,12 +4,14 @@ ghost use Rattle.std.specs.Thread.{IsSync};
 ghost use Rattle.pl_machine.specs.declared.entry.What.{What};
 ghost use Rattle.pl_machine.specs.Machine.{epoch_of, finished};
 ghost use Rattle.pl_machine.specs.Startable.{HasNone, IsLeast};
+ghost use Rattle.pl_epochs.specs.Words.{table_of};
 ghost use Rattle.pl_plant.specs.Tickets.{TicketStands};
 ghost use Rattle.pl_session.specs.Alone.{first_alone, WaitsForNobody};
 ghost use Rattle.pl_session.specs.Complete.{IsComplete, runs_of};
 ghost use Rattle.pl_session.specs.UnderWay.{IsOnItsWay, LacksNothing, undone_in};
 
 use crate::probe::SteadyProbe;
+use pl_epochs::EpochTable;
 use pl_machine::{Actor, Answer, Closing, Command, Entry};
 use pl_plant::{Begun, Plant, Ticket};
 use pl_tech::{Ran, Slot, Technology};
@@ -21,11 +23,13 @@ use std::thread::Threads;
 // Session 1, which is alone, on its way through its commands.
 #[derive(Drop)]
 pub(crate) struct Session<T: Technology> {
+    epochs: EpochTable,
     plant: Plant<T>,
     bench: T::Bench,
     commands: Vec<Arc<Command<T::Edit>>>,
     // How many of them were made.
     made: usize,
+    ghost home: { plant.home ≡ table_of epochs },
 }
 
 // Runs a job to its end.
@@ -57,8 +61,10 @@ impl<T: Technology> Session<T> {
         ensures made { IfOk result (λ s. s.made ≡ 0) }
         ensures way { IfOk result (λ s. IsOnItsWay T.meaning (map arc_value commands.items) 0 s.plant (T.runs s.bench)) }
     {
+        let (epochs, writer, _) = EpochTable::new(alloc)?;
         Ok(Session {
-            plant: Plant::new(alloc)?,
+            epochs,
+            plant: Plant::new(alloc, writer)?,
             bench: T::bench(),
             commands,
             made: 0,
@@ -162,7 +168,7 @@ impl<T: Technology> Session<T> {
         ensures way { OnOk result (IsOnItsWay T.meaning (map arc_value self.new.commands.items) self.new.made self.new.plant (T.runs self.new.bench)) }
     {
         self.plant.reserve()?;
-        match self.plant.call(alloc, 1, command)? {
+        match self.plant.call(alloc, &self.epochs, 1, command)? {
             Answer::Now(_) => {
                 self.made += 1;
                 Ok(())

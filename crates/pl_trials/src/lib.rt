@@ -3,3 +3,5 @@
 
 #[cfg(test)]
 mod plants;
+#[cfg(test)]
+mod trial;

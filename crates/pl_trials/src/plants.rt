@@ -1,18 +1,11 @@
 //! Plants of real prints, call by call.
-ghost use Rattle.std.specs.Prelude.{◌≡◌, IfOk};
-ghost use Rattle.std.specs.Arc.{arc_value};
-ghost use Rattle.pl_machine.specs.Calls.{NamesSession};
-ghost use Rattle.pl_fff.specs.Jobs.{job_value};
-ghost use Rattle.pl_slots.specs.Fff.{fff_meaning};
-ghost use Rattle.pl_trials.specs.Standing.{StandOn};
+ghost use Rattle.std.specs.Thread.{IsSync};
 
+use crate::trial::{Trial, made};
 use pl_edit::{Block, Edit, EditReply, ValueText};
-use pl_fff::{Fff, FffJob};
-use pl_machine::{Actor, Answer, Closing, Command, Reply, What};
-use pl_plant::{Begun, Plant};
-use pl_ports::ScriptedProbe;
-use pl_slots::FffOutput;
-use pl_tech::{Ran, Slot, SlotSet, Technology};
+use pl_fff::Fff;
+use pl_machine::{Answer, Command, Reply};
+use pl_tech::{Slot, SlotSet};
 use pl_units::{NoMemory, Shared, Text};
 use std::alloc::Global;
 use std::sync::Arc;
@@ -72,9 +65,7 @@ fn set(alloc: Global, key: &[u8], text: &[u8]) -> Result<Edit, NoMemory> {
     })
 }
 
-fn command_of(alloc: Global, ask: Ask) -> Result<Command<Edit>, NoMemory>
-    ensures { IfOk result (λ command. NamesSession command) }
-{
+fn command_of(alloc: Global, ask: Ask) -> Result<Command<Edit>, NoMemory> {
     match ask {
         Ask::Load => Ok(Command::Edit(load(alloc)?)),
         Ask::Set(key, text) => Ok(Command::Edit(set(alloc, key, text)?)),
@@ -82,11 +73,18 @@ fn command_of(alloc: Global, ask: Ask) -> Result<Command<Edit>, NoMemory>
         Ask::Export => Ok(Command::Export),
         Ask::Cancel => Ok(Command::Cancel),
         Ask::Status => Ok(Command::Status),
-        Ask::After(session, calls) if session >= 1 && session <= 16 => {
-            Ok(Command::After(session, calls))
-        }
-        Ask::After(..) => Ok(Command::Status),
+        Ask::After(session, calls) => Ok(Command::After(session, calls)),
     }
+}
+
+fn commands_of(alloc: Global, asks: &[(Ask, Told)]) -> Result<Vec<Arc<Command<Edit>>>, Fail> {
+    let mut commands = Vec::new(alloc);
+    for number in 0..asks.len() {
+        let (ask, _) = asks[number];
+        let command = command_of(alloc, ask)?;
+        commands.push(Arc::new(alloc, command)?)?;
+    }
+    Ok(commands)
 }
 
 fn least(slots: SlotSet) -> u8 {
@@ -116,47 +114,19 @@ fn told_by(answer: &Answer<Fff>) -> Told {
     }
 }
 
-// Session 1 makes a call. What was started stands on.
-fn call(plant: &mut Plant<Fff>, alloc: Global, ask: Ask) -> Result<Told, Fail>
-    ensures { IfOk result (λ _. StandOn fff_meaning plant.old.journal plant.new.journal) }
-{
-    plant.reserve()?;
-    if !plant.may_call(1) || plant.calls(1) == u32::MAX {
-        return Err("session 1 may not call".into());
-    }
-    let asked = command_of(alloc, ask)?;
-    let command = Arc::new(alloc, asked)?;
-    let answer = plant.call(alloc, 1, command)?;
-    Ok(told_by(&answer))
-}
-
-// Session 1 makes calls: the first one that is told something else than the row has, if there is one, and what it is told.
-fn call_all(
-    plant: &mut Plant<Fff>,
-    alloc: Global,
-    asks: &[(Ask, Told)],
-) -> Result<Option<(usize, Told)>, Fail>
-    ensures { IfOk result (λ _. StandOn fff_meaning plant.old.journal plant.new.journal) }
-{
+// The first call of a row that is told something else than the row has, if there is one, and what it is told.
+fn differing(asks: &[(Ask, Told)], answers: &[Answer<Fff>]) -> Option<(usize, Told)> {
     for number in 0..asks.len() {
-        let (ask, expected) = asks[number];
-        let told = call(plant, alloc, ask)?;
+        let (_, expected) = asks[number];
+        let told = match answers.get(number) {
+            Some(answer) => told_by(answer),
+            None => Told::Other,
+        };
         if told != expected {
-            return Ok(Some((number, told)));
+            return Some((number, told));
         }
     }
-    Ok(None)
-}
-
-// Runs a job, which nobody stops.
-fn result_of<R: Threads + Sync>(rt: &R, alloc: Global, job: FffJob) -> Result<Arc<FffOutput>, Fail>
-    ensures { IfOk result (λ output. arc_value output ≡ job_value job) }
-{
-    let mut probe = ScriptedProbe::new(Vec::new(alloc));
-    match Fff::run(rt, alloc, &mut Fff::bench(), job, &mut probe)? {
-        Ran::Done(output) => Ok(Arc::new(alloc, output)?),
-        Ran::Stopped => Err("stopped".into()),
-    }
+    None
 }
 
 // What came of a start: whether calls were told something else than the row has, the epoch at the start, and how it was closed.
@@ -165,51 +135,6 @@ struct Outcome {
     differs: Option<(usize, Told)>,
     epoch: u64,
     late: Option<(u64, u64)>,
-}
-
-// Worker 1 starts a slot, session 1 makes calls, and then the worker makes the slot's result; None where the slot is not ready.
-fn work<R: Threads + Sync>(
-    rt: &R,
-    alloc: Global,
-    plant: &mut Plant<Fff>,
-    slot: Slot,
-    asks: &[(Ask, Told)],
-) -> Result<Option<Outcome>, Fail> {
-    plant.reserve()?;
-    let Begun::Go(ticket, job) = plant.start(alloc, Actor::Worker(1), slot)? else {
-        return Ok(None);
-    };
-    let epoch = ticket.epoch;
-    let differs = call_all(plant, alloc, asks)?;
-    let output = result_of(rt, alloc, job)?;
-    plant.reserve()?;
-    let late = match plant.publish(ticket, output) {
-        Closing::Published => None,
-        Closing::Late { then, now } => Some((then, now)),
-    };
-    Ok(Some(Outcome {
-        differs,
-        epoch,
-        late,
-    }))
-}
-
-// Worker 1 starts a slot: the epoch at the start; None where the slot is not ready.
-fn start(plant: &mut Plant<Fff>, alloc: Global, slot: Slot) -> Result<Option<u64>, Fail> {
-    plant.reserve()?;
-    match plant.start(alloc, Actor::Worker(1), slot)? {
-        Begun::Go(ticket, _job) => Ok(Some(ticket.epoch)),
-        Begun::NotReady => Ok(None),
-    }
-}
-
-// A plant with one object applied.
-fn loaded(alloc: Global) -> Result<Plant<Fff>, Fail> {
-    let mut plant = Plant::<Fff>::new(alloc)?;
-    match call_all(&mut plant, alloc, &LOADED)? {
-        None => Ok(plant),
-        Some(_) => Err("the object is not loaded and applied".into()),
-    }
 }
 
 const LOADED: [(Ask, Told); 2] = [(Ask::Load, Told::Object(0)), (Ask::Apply, Told::Changed)];
@@ -222,12 +147,17 @@ const REFUSED: [(Ask, Told); 2] = [
 #[test]
 fn a_fresh_plant_refuses_what_is_not_ready(rt: HostRuntime) -> Result<(), Fail> {
     let alloc = rt.alloc();
-    let mut plant = loaded(alloc)?;
-    let infill = start(&mut plant, alloc, Slot::of(3))?;
-    let slice = start(&mut plant, alloc, Slot::of(0))?;
-    let differs = call_all(&mut plant, alloc, &REFUSED)?;
-    assert_eq!(rt; (infill, slice, differs), (None, Some(0), None));
-    assert_eq!(rt; plant.journal().len(), 3);
+    let mut trial = Trial::<Fff>::new(alloc)?;
+    let loaded = trial.call_all(alloc, &commands_of(alloc, &LOADED)?)?;
+    assert_eq!(rt; differing(&LOADED, &loaded), None);
+    let infill = trial.start(alloc, Slot::of(3))?;
+    let slice = trial.start(alloc, Slot::of(0))?;
+    let refused = trial.call_all(alloc, &commands_of(alloc, &REFUSED)?)?;
+    assert_eq!(rt;
+        (infill, slice, differing(&REFUSED, &refused)),
+        (None, Some(0), None)
+    );
+    assert_eq!(rt; trial.entries(), 3);
     Ok(())
 }
 
@@ -281,62 +211,23 @@ const ROWS: [Row; 4] = [
     },
 ];
 
-// Whether the last entry of a journal is worker 1's late one of a slot.
-fn ends_late(plant: &Plant<Fff>, slot: Slot, late: (u64, u64)) -> bool {
-    match plant.journal().last() {
-        Some(entry) => {
-            matches!(entry.actor, Actor::Worker(1))
-                && matches!(entry.what, What::Late(at, then, now) if at == slot && (then, now) == late)
-        }
-        None => false,
-    }
-}
-
-// Worker 1 makes a slot: the epoch at its start, if it is published.
-fn publish<R: Threads + Sync>(
-    rt: &R,
-    alloc: Global,
-    plant: &mut Plant<Fff>,
-    slot: Slot,
-) -> Result<Option<u64>, Fail> {
-    match work(rt, alloc, plant, slot, &[])? {
-        Some(outcome) if outcome.late.is_none() => Ok(Some(outcome.epoch)),
-        _ => Ok(None),
-    }
-}
-
-// The slot of a number below 100.
-fn slot_at(number: u8) -> Slot {
-    if number < 100 {
-        return Slot::of(number);
-    }
-    Slot::of(99)
-}
-
-// A plant with one object applied, of which the first slots are done.
-fn prepared<R: Threads + Sync>(rt: &R, alloc: Global, done: u8) -> Result<Plant<Fff>, Fail> {
-    let mut plant = loaded(alloc)?;
-    for number in 0..done {
-        let _epoch = publish(rt, alloc, &mut plant, slot_at(number))?;
-    }
-    Ok(plant)
-}
-
 // What came of a row, and whether, where the result was late, the journal says so and the slot can be made once more.
-fn made<R: Threads + Sync>(
+fn outcome_of<R: Threads + Sync>(
     rt: &R,
     alloc: Global,
     row: &Row,
-) -> Result<(Option<Outcome>, bool), Fail> {
-    let mut plant = prepared(rt, alloc, row.done)?;
-    let slot = slot_at(row.done);
-    let outcome = work(rt, alloc, &mut plant, slot, row.asks)?;
-    let Some(late) = row.late else {
-        return Ok((outcome, true));
-    };
-    let told = ends_late(&plant, slot, late);
-    let again = publish(rt, alloc, &mut plant, slot)?;
-    Ok((outcome, told && again == Some(late.1)))
+) -> Result<(Option<Outcome>, bool), Fail>
+    requires { IsSync R.row }
+{
+    let loads = commands_of(alloc, &LOADED)?;
+    let commands = commands_of(alloc, row.asks)?;
+    let (outcome, again) = made::<Fff, R>(rt, alloc, &loads, row.done, &commands, row.late)?;
+    let outcome = outcome.map(|outcome| Outcome {
+        differs: differing(row.asks, &outcome.answers),
+        epoch: outcome.epoch,
+        late: outcome.late,
+    });
+    Ok((outcome, again))
 }
 
 #[test]
@@ -348,7 +239,7 @@ fn results_are_late_exactly_where_their_slot_was_invalidated(rt: HostRuntime) ->
             epoch: 0,
             late: row.late,
         };
-        let outcome = made(&rt, rt.alloc(), row)?;
+        let outcome = outcome_of(&rt, rt.alloc(), row)?;
         assert!(rt; outcome == (Some(expected), true), "{name}: {outcome:?}");
     }
     Ok(())

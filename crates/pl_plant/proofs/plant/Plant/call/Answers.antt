@@ -1,10 +1,12 @@
-use Rattle.std.proofs.Common.{sym, subst}
+use Rattle.std.proofs.Common.{sym, subst, ◌∙◌}
 use Rattle.std.specs.Arc.{arc_value}
 use Rattle.std.specs.Option.{option_map}
 use Rattle.pl_machine.specs.Calls.{Excludes}
 use Rattle.pl_machine.specs.Machine.{MayCall}
+use Rattle.pl_epochs.specs.Words.{counts}
 use Rattle.pl_plant.specs.Keeping.{KeepsAfter}
 use Rattle.pl_plant.proofs.Commands.{is_lent, is_handed_out, keeps_after, stands-called}
+use Rattle.pl_plant.proofs.Rises.{counted_after}
 use Rattle.pl_plant.proofs.plant.Plant.call.Goals as goal
 
 pub call-requires-clause-given : goal.call-requires-clause-given
@@ -27,7 +29,10 @@ invariant_of-self-in-Now g c =
     rw (rw c.in-Now.is at c.in_ok-answer.ensures.state, c.add.ensures, c.of.ensures, c.repeat.ensures)
     (stands-called m laws st c.self.inside.journal.items c.self.inside.kept c.forget.new.kept c.args.session command c.in-Now.reply
     (subst (λ p. MayCall p.state c.args.session) (sym c.self.view_is) c.requires.may) replies
-    (keeps_after m laws st command c.in-Now.reply c.self.inside.kept c.forget.new.kept replies c.forget.ensures) c.self.invariant)
+    (keeps_after m laws st command c.in-Now.reply c.self.inside.kept c.forget.new.kept replies c.forget.ensures)
+    (c.bump_all.ensures.counts
+    ∙ counted_after m laws st command c.in-Now.reply c.stoppable-stopped.result c.fallen.result (counts c.self.inside.writer) c.self.inside.writer.wide c.self.invariant.counted c.stoppable-stopped.ensures replies c.fallen.ensures)
+    c.self.invariant)
 
 pub returns-in-Now-clause-exact : goal.returns-in-Now-clause-exact
 returns-in-Now-clause-exact g c =

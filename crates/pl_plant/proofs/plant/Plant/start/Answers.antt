@@ -13,7 +13,7 @@ job-requires-clause-needed g c =
 pub invariant_of-self : goal.invariant_of-self
 invariant_of-self g c =
     rw (c.in-At.ensures.state, c.add.ensures)
-    (stands-started g.T.Technology.meaning c.self.inside.state c.self.inside.journal.items c.self.inside.kept c.args.actor c.args.slot c.in-At.epoch c.in-At.ensures.step c.self.invariant)
+    (stands-started g.T.Technology.meaning c.self.inside.state c.self.inside.journal.items c.self.inside.kept _ c.args.actor c.args.slot c.in-At.epoch c.in-At.ensures.step c.self.invariant)
 
 pub unreachable-requires : goal.unreachable-requires
 unreachable-requires g c = c.in-NotReady.ensures.refused refl _ (c.if-not-is_ready.ensures.0 refl)
@@ -21,5 +21,5 @@ unreachable-requires g c = c.in-NotReady.ensures.refused refl _ (c.if-not-is_rea
 pub returns-clause-stands : goal.returns-clause-stands
 returns-clause-stands g c =
     rw (c.add.ensures, c.of.ensures)
-    (stands_in-started g.T.Technology.meaning c.self.inside.state c.self.inside.journal.items c.self.inside.kept c.args.actor c.args.slot c.in-At.epoch _ c.self.invariant
+    (stands_in-started g.T.Technology.meaning c.self.inside.state c.self.inside.journal.items c.self.inside.kept _ c.args.actor c.args.slot c.in-At.epoch _ c.self.invariant
     (c.in_ok-job.ensures.value ∙ ap (λ p. g.T.Technology.meaning.value p c.args.slot) c.applied.ensures))

@@ -1,9 +1,0 @@
-use Rattle.std.specs.Arc.{arc_value}
-use Rattle.pl_slots.specs.Fff.{fff_meaning}
-use Rattle.pl_plant.proofs.Closing.{stands_after_call}
-use Rattle.pl_trials.proofs.plants.call.Goals as goal
-
-pub returns : goal.returns
-returns c = λ actor slot epoch value stands.
-    stands_after_call fff_meaning c.in_ok-answer.answer (arc_value c.in_ok-command.command) 1 c.reserve.new.self.journal c.call.new.self.journal actor slot epoch value c.in_ok-answer.ensures.journal
-    (rw c.in_ok-reserve.ensures.journal stands)
