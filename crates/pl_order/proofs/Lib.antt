@@ -4,3 +4,4 @@ pub mod Others
 pub mod Counting
 pub mod Completing
 pub mod Steps
+pub mod Staying

@@ -117,7 +117,7 @@ module _ {T P E R O J B : Type 0} (m : Meaning P E R O) where
 
   module _ (commands : List (Command E)) where
     -- who has a next command has not said bye
-    no_bye_before : (actor : Actor) (seen : List (Entry T P E R O J B)) (work : Option (Work O)) (c : Command E) → IsInOrder m commands actor seen work → next_command commands actor seen ≡ Some c
+    pub no_bye_before : (actor : Actor) (seen : List (Entry T P E R O J B)) (work : Option (Work O)) (c : Command E) → IsInOrder m commands actor seen work → next_command commands actor seen ≡ Some c
         → (before after : List (Entry T P E R O J B)) → seen ≡ before ++ bye_of actor ∷ after → ⊥
     no_bye_before actor seen work c order next before after is =
         let told = order.bye before after is in
