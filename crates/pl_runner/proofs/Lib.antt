@@ -1,0 +1,4 @@
+pub mod Went
+pub mod Leaves
+pub mod Idling
+pub mod Readying

@@ -1,0 +1,34 @@
+//! Runners: a session or a worker that takes turns at the lock of the plant, and between them runs the job that it has started.
+#![tactic(auto)]
+
+mod closed;
+mod closing;
+#[cfg(test)]
+mod closing_tests;
+mod closing_turns;
+mod finishing;
+mod idle;
+mod job;
+mod look;
+mod looked;
+mod looking;
+mod probe;
+mod run;
+mod runner;
+#[cfg(test)]
+mod runner_tests;
+mod standing;
+mod step;
+mod turns;
+
+pub use closed::Closed;
+pub use closing::{publish, retire};
+pub use closing_turns::{closing_down_turn, publish_turn, retire_turn};
+pub use job::run_job;
+pub use looked::Looked;
+pub use looking::{ask, look_for_work, say_bye};
+pub use probe::{Aim, SlotProbe};
+pub use run::{session, worker};
+pub use runner::Runner;
+pub use step::Step;
+pub use turns::{bye_turn, session_turn, worker_turn};

@@ -1,0 +1,48 @@
+use crate::closing_tests::{of_worker, opened};
+use crate::{Runner, Step, session, worker};
+use pl_machine::Command;
+use pl_ports::OpenGate;
+use pl_tech::{Technology, Toy, ToyEdit};
+use std::sync::Arc;
+use std::test::Fail;
+
+#[test]
+fn a_session_makes_its_results_and_a_worker_then_ends(rt: HostRuntime) -> Result<(), Fail> {
+    let alloc = rt.alloc();
+    let (epochs, mut reader, lock, mut first) = opened(alloc)?;
+    let pass = of_worker(&lock, &mut first);
+    let other = epochs.reader(&mut reader);
+    let commands = vec![in alloc;
+        Arc::new(alloc, Command::Edit(ToyEdit::SetA(5)))?,
+        Arc::new(alloc, Command::Apply)?,
+        Arc::new(alloc, Command::Export)?,
+    ]?;
+    let mut one = Runner::<Toy>::session(1, commands, first, reader, Toy::bench());
+    let mut helper = Runner::<Toy>::worker(alloc, 1, pass, other, Toy::bench());
+    assert!(rt; session(&mut one, &rt, alloc, &lock, &epochs, 1, &OpenGate).is_ok());
+    assert!(rt; worker(&mut helper, &rt, alloc, &lock, &epochs, 1, &OpenGate).is_ok());
+    assert_eq!(rt; (one.stopped(), helper.stopped()), (0, 0));
+    Ok(())
+}
+
+#[test]
+fn a_job_whose_slot_was_cancelled_is_stopped(rt: HostRuntime) -> Result<(), Fail> {
+    let alloc = rt.alloc();
+    let (epochs, mut reader, lock, mut first) = opened(alloc)?;
+    let pass = of_worker(&lock, &mut first);
+    let other = epochs.reader(&mut reader);
+    let commands = vec![in alloc; Arc::new(alloc, Command::Cancel)?]?;
+    let mut one = Runner::<Toy>::session(1, commands, first, reader, Toy::bench());
+    let mut helper = Runner::<Toy>::worker(alloc, 1, pass, other, Toy::bench());
+    let Step::Moved = helper.step(&rt, alloc, &lock, &epochs, 1, &OpenGate) else {
+        return Err("nothing was started".into());
+    };
+    let Step::Moved = one.step(&rt, alloc, &lock, &epochs, 1, &OpenGate) else {
+        return Err("nothing was cancelled".into());
+    };
+    let Step::Moved = helper.step(&rt, alloc, &lock, &epochs, 1, &OpenGate) else {
+        return Err("nothing was closed".into());
+    };
+    assert_eq!(rt; (one.stopped(), helper.stopped()), (0, 1));
+    Ok(())
+}
