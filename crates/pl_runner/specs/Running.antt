@@ -52,6 +52,10 @@ module _ {T P E R O J B H : Type 0} {g : Ghosts (Plant T P E R O J B) (Entry T P
   abbrev pub IsAt : TurnLock (Plant T P E R O J B) (Entry T P E R O J B) H → TableName → Runner T P E R O J B (Entry T P E R O J B) H g → Type 0
   IsAt lock table r = MatchOption r.hands ⊥ (λ h. IsOf lock h.pass × (reads_at h.reader ≡ table))
 
+  -- it has what it takes turns with
+  abbrev pub HasHands : Runner T P E R O J B (Entry T P E R O J B) H g → Type 0
+  HasHands r = MatchOption r.hands ⊥ (λ _. Unit {0})
+
   -- the runner is in order: at this lock and this table, with the number of its actor and without joined passes. It has made its
   -- first commands, and has run a job for each of its starts but the one under way. It is in order in what it has seen
   pub record IsReady (m : Meaning P E R O) (job_value : J → O) (runs : B → ℕ) (lock : TurnLock (Plant T P E R O J B) (Entry T P E R O J B) H) (table : TableName) (r : Runner T P E R O J B (Entry T P E R O J B) H g) : Type 0 where

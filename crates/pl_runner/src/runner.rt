@@ -2,7 +2,7 @@
 ghost use Rattle.std.specs.Prelude.{◌≡◌, ◌≤◌, ◌+◌, ◌-◌, ◌^◌, [], map, vec_len, All};
 ghost use Rattle.std.specs.Arc.{arc_value};
 ghost use Rattle.pl_turn.specs.declared.lock.TurnLock.{TurnLock};
-ghost use Rattle.pl_turn.specs.Passes.{IsOf, joined, number, own, seen};
+ghost use Rattle.pl_turn.specs.Passes.{IsOf, joined, known, number, own, seen};
 ghost use Rattle.pl_epochs.specs.declared.seats.TableName.{TableName};
 ghost use Rattle.pl_epochs.specs.Words.{reads_at};
 ghost use Rattle.pl_machine.specs.declared.entry.Entry.{Entry};
@@ -53,7 +53,7 @@ where
 }
 
 impl<T: Technology> Runner<T> {
-    ghost use Rattle.pl_runner.specs.Running.{IsReady, seen_by};
+    ghost use Rattle.pl_runner.specs.Running.{HasHands, IsAt, IsReady, known_by, seen_by};
     ghost use Rattle.pl_runner.specs.Causes.{MayGoOn};
 
     /// The runner of a session, from 1 to 16. Its pass has the session's number, no own entries and no joined passes, and has seen
@@ -120,6 +120,21 @@ impl<T: Technology> Runner<T> {
             started: None,
             stopped: 0,
         }
+    }
+
+    /// Its pass, and how many jobs were run at its bench.
+    pub fn into_parts(self) -> (Pass<Plant<T>>, u64)
+        requires { HasHands self }
+        ensures pass { known result.0 ≡ known_by self }
+        ensures lock { (lock : TurnLock (Plant T T.Plate T.Edit T.Reply T.Output T.Job T.Bench) (Entry T T.Plate T.Edit T.Reply T.Output T.Job T.Bench) TableName) (table : TableName) → IsAt lock table self → IsOf lock result.0 }
+        ensures runs { result.1 ≡ T.runs self.bench }
+    {
+        let Runner { hands, bench, .. } = self;
+        let runs = T::runs(&bench);
+        let Some(Hands { pass, .. }) = hands else {
+            unreachable!()
+        };
+        (pass, runs)
     }
 
     /// How many of its jobs were stopped.

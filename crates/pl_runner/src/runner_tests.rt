@@ -1,10 +1,39 @@
+ghost use Rattle.std.specs.Prelude.{◌≡◌};
+ghost use Rattle.pl_turn.specs.Passes.{IsOf};
+
 use crate::closing_tests::{of_worker, opened};
 use crate::{Runner, Step, session, worker};
-use pl_machine::Command;
+use pl_machine::{Command, What};
+use pl_plant::Plant;
 use pl_ports::OpenGate;
 use pl_tech::{Technology, Toy, ToyEdit};
-use std::sync::Arc;
+use pl_turn::{Pass, TurnLock};
+use std::sync::{Arc, Wait};
 use std::test::Fail;
+
+// How many entries the plant has, and how many of them are late at epoch 1 with a start at epoch 0.
+fn count<T: Technology>(plant: &Plant<T>) -> (usize, usize) {
+    let journal = plant.journal();
+    let late = journal
+        .iter()
+        .filter(|entry| matches!(entry.what, What::Late(_, 0, 1)))
+        .count();
+    (journal.len(), late)
+}
+
+// The same of the plant under the lock.
+fn counted<T: Technology, R: Wait>(
+    rt: &R,
+    lock: &TurnLock<Plant<T>>,
+    pass: Pass<Plant<T>>,
+) -> (usize, usize)
+    requires { IsOf lock.now pass }
+{
+    let mut turn = lock.take(rt, pass);
+    let counts = count(turn.value());
+    let _ = turn.end();
+    counts
+}
 
 #[test]
 fn a_session_makes_its_results_and_a_worker_then_ends(rt: HostRuntime) -> Result<(), Fail> {
@@ -22,6 +51,9 @@ fn a_session_makes_its_results_and_a_worker_then_ends(rt: HostRuntime) -> Result
     assert!(rt; session(&mut one, &rt, alloc, &lock, &epochs, 1, &OpenGate).is_ok());
     assert!(rt; worker(&mut helper, &rt, alloc, &lock, &epochs, 1, &OpenGate).is_ok());
     assert_eq!(rt; (one.stopped(), helper.stopped()), (0, 0));
+    let (pass, runs) = one.into_parts();
+    assert_eq!(rt; runs, 2);
+    assert_eq!(rt; counted(&rt, &lock, pass), (8, 0));
     Ok(())
 }
 
@@ -44,5 +76,8 @@ fn a_job_whose_slot_was_cancelled_is_stopped(rt: HostRuntime) -> Result<(), Fail
         return Err("nothing was closed".into());
     };
     assert_eq!(rt; (one.stopped(), helper.stopped()), (0, 1));
+    let (pass, runs) = helper.into_parts();
+    assert_eq!(rt; runs, 1);
+    assert_eq!(rt; counted(&rt, &lock, pass), (3, 1));
     Ok(())
 }
