@@ -1,6 +1,6 @@
 /// What became of a job that has ended.
 #[derive(Clone, Copy, PartialEq, Eq, Debug)]
-pub enum Closed {
+pub(crate) enum Closed {
     /// Its result was published.
     Done,
     /// It was too late: the slot's epoch is `now`, above `since`, the one at its start.

@@ -17,7 +17,7 @@ use std::sync::Arc;
 /// What a runner does in a turn when its job has made its result. The ticket stands in the journal, and the output is its job's.
 /// Where the plant is closed down, nothing; else the result is published, or dropped where the slot's epoch is above the ticket's.
 /// For want of memory it closes the plant down, and adds no entry.
-pub fn publish<T: Technology>(
+pub(crate) fn publish<T: Technology>(
     plant: &mut Plant<T>,
     ticket: Ticket<T>,
     output: Arc<T::Output>,
@@ -47,7 +47,7 @@ pub fn publish<T: Technology>(
 /// What a runner does in a turn when its job was stopped. The ticket stands in the journal, the table is the plant's and the
 /// reader's, and the reader has read a word of the slot that is above the ticket's epoch. Where the plant is closed down, nothing;
 /// else the job is noted as late. For want of memory it closes the plant down, and adds no entry. The reader is as before.
-pub fn retire<T: Technology>(
+pub(crate) fn retire<T: Technology>(
     plant: &mut Plant<T>,
     epochs: &EpochTable,
     reader: &mut ReaderSeat,

@@ -21,7 +21,7 @@ use std::sync::{Arc, Wait};
 
 /// A turn of a runner whose job has made its result: the ticket stands in what the pass has seen, and the output is its job's. A
 /// runner that was in order with its work stays so, whatever its commands: without work once it is closed. It waits for the turn.
-pub fn publish_turn<T: Technology, R: Wait>(
+pub(crate) fn publish_turn<T: Technology, R: Wait>(
     rt: &R,
     lock: &TurnLock<Plant<T>>,
     pass: Pass<Plant<T>>,
@@ -53,7 +53,7 @@ pub fn publish_turn<T: Technology, R: Wait>(
 /// A turn of a runner whose job was stopped: the ticket stands in what the pass has seen, the table is the reader's, its words are
 /// the epochs of the plant under the lock, and the reader has read a word of the slot that is above the ticket's epoch. The reader
 /// comes back as it was. A runner that was in order with its work stays so, as in `publish_turn`. It waits for the turn.
-pub fn retire_turn<T: Technology, R: Wait>(
+pub(crate) fn retire_turn<T: Technology, R: Wait>(
     rt: &R,
     lock: &TurnLock<Plant<T>>,
     epochs: &EpochTable,
@@ -88,7 +88,7 @@ pub fn retire_turn<T: Technology, R: Wait>(
 }
 
 /// A turn that closes the plant down. It waits for the turn.
-pub fn closing_down_turn<T: Technology, R: Wait>(
+pub(crate) fn closing_down_turn<T: Technology, R: Wait>(
     rt: &R,
     lock: &TurnLock<Plant<T>>,
     pass: Pass<Plant<T>>,

@@ -15,7 +15,7 @@ use std::thread::Threads;
 /// Runs the job of a slot that was started at this epoch, at a bench where fewer than 2^64 - 1 runs were made. Before each batch
 /// the word of the slot is read at the table of epochs: the job stops once it is above the epoch. The run is counted whatever it
 /// answers, and the reader comes back.
-pub fn run_job<T: Technology, R: Threads + Sync>(
+pub(crate) fn run_job<T: Technology, R: Threads + Sync>(
     rt: &R,
     alloc: Global,
     epochs: &EpochTable,

@@ -3,7 +3,7 @@ use pl_tech::Technology;
 
 /// What a turn of a runner without work came to.
 #[derive(Drop)]
-pub enum Looked<T: Technology> {
+pub(crate) enum Looked<T: Technology> {
     /// A session has made its call.
     Called,
     /// A slot is started: the ticket, and the job to run.

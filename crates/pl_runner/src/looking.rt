@@ -85,7 +85,7 @@ fn call_or_begin<T: Technology>(
 /// What a worker, from 1 to 8, does in a turn while it has nothing pending. Where the plant is closed down, nothing; where each of
 /// these sessions has left (bit i - 1 stands for session i), it ends; else it starts the least slot that may be started, or waits
 /// where there is none. For want of memory it closes the plant down, and adds no entry.
-pub fn look_for_work<T: Technology>(
+pub(crate) fn look_for_work<T: Technology>(
     plant: &mut Plant<T>,
     alloc: Global,
     worker: u8,
@@ -124,7 +124,7 @@ pub fn look_for_work<T: Technology>(
 /// nothing; else it makes the call. A wait for another session's calls may have to wait; where an export lacks results, the session
 /// starts the least slot that may be started in place of the call, or waits where there is none. For want of memory it closes the
 /// plant down, and adds no entry.
-pub fn ask<T: Technology>(
+pub(crate) fn ask<T: Technology>(
     plant: &mut Plant<T>,
     alloc: Global,
     epochs: &EpochTable,
@@ -160,7 +160,7 @@ pub fn ask<T: Technology>(
 
 /// What a session, from 1 to 16, does in a turn when it has no command left and nothing pending. Where the plant is closed down,
 /// nothing; else it says bye. For want of memory it closes the plant down, and adds no entry.
-pub fn say_bye<T: Technology>(plant: &mut Plant<T>, session: u8) -> Looked<T>
+pub(crate) fn say_bye<T: Technology>(plant: &mut Plant<T>, session: u8) -> Looked<T>
     requires may { Stands T.meaning plant.old → MayCall plant.old.state session }
     ensures stood { Stands T.meaning plant.old }
     ensures stands { Stands T.meaning plant.new }

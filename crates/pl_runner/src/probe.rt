@@ -9,7 +9,7 @@ use std::collections::LinkedList;
 use std::snapshot::Snapshot;
 
 /// What a job's probe watches. No value of it is made.
-pub struct Aim {
+pub(crate) struct Aim {
     /// The table of epochs.
     pub table: TableName,
     /// The job's slot.
@@ -22,7 +22,7 @@ pub struct Aim {
 
 /// One load of the slot's word is one poll. It answers true where the word is above the epoch.
 #[derive(Drop)]
-pub struct SlotProbe<'a> {
+pub(crate) struct SlotProbe<'a> {
     /// The table of epochs.
     pub epochs: &'a EpochTable,
     /// Who loads the words.

@@ -28,7 +28,7 @@ use std::sync::{Arc, Wait};
 /// where each of these sessions has left (bit i - 1 stands for session i); else it begins the least slot that may be started, or
 /// waits where there is none. `NoMemory` is the answer where the plant is closed down, and for want of memory, which closes it
 /// down; no entry is added then. It waits for its turn, and never returns where the lock has no ticket left.
-pub fn worker_turn<T: Technology, R: Wait>(
+pub(crate) fn worker_turn<T: Technology, R: Wait>(
     rt: &R,
     alloc: Global,
     lock: &TurnLock<Plant<T>>,
@@ -68,7 +68,7 @@ pub fn worker_turn<T: Technology, R: Wait>(
 /// the session waits; where it is an export that lacks results, the session begins the least slot that may be started, or waits
 /// where there is none. `NoMemory` is the answer where the plant is closed down, and for want of memory, which closes it down; no
 /// entry is added then. It waits for its turn, and never returns where the lock has no ticket left.
-pub fn session_turn<T: Technology, R: Wait>(
+pub(crate) fn session_turn<T: Technology, R: Wait>(
     rt: &R,
     alloc: Global,
     lock: &TurnLock<Plant<T>>,
@@ -114,7 +114,7 @@ pub fn session_turn<T: Technology, R: Wait>(
 /// A turn of a session, from 1 to 16, that has nothing pending, has made all of its commands and has not said bye: it says bye. The
 /// commands serve the clauses alone. `NoMemory` is the answer where the plant is closed down, and for want of memory, which closes
 /// it down; no entry is added then. It waits for its turn, and never returns where the lock has no ticket left.
-pub fn bye_turn<T: Technology, R: Wait>(
+pub(crate) fn bye_turn<T: Technology, R: Wait>(
     rt: &R,
     lock: &TurnLock<Plant<T>>,
     pass: Pass<Plant<T>>,
