@@ -13,7 +13,7 @@ pub mod whole;
 
 pub use edge::{StdinSource, StdoutSink};
 pub use ends::{Failed, ReadStop, Sink, SinkStop, Source};
-pub use gate::{Actor, Gate, OpenGate, Point};
+pub use gate::{Actor, Gate, HoldGate, OpenGate, Point};
 pub use memory::{MemorySink, MemorySource};
 pub use probe::{Probe, ScriptedProbe};
 pub use steady::{SteadySink, SteadySource};

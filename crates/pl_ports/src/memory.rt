@@ -1,6 +1,6 @@
-ghost use Rattle.std.specs.Prelude.{◌≡◌, ◌<◌, ◌≤◌, ◌+◌, ◌^◌, ◌-◌, min, if◌then◌else◌, ℕ, List, [], ◌++◌, drop, length, take, Some, IsTrue, ◌↔◌, IfOk, is_err, OnErr, OnOk};
+ghost use Rattle.std.specs.Prelude.{◌≡◌, ◌≢◌, ◌<◌, ◌≤◌, ◌+◌, ◌^◌, ◌-◌, min, if◌then◌else◌, ℕ, List, [], ◌++◌, drop, length, take, Some, IsTrue, ◌↔◌, IfOk, is_err, OnErr, OnOk};
 ghost use Rattle.std.specs.Io.KnownBytes.{Consumes, Appends, Keeps, IsAtEnd};
-ghost use Rattle.pl_ports.specs.Causes.{Rose};
+ghost use Rattle.pl_ports.specs.Causes.{Rose, one_more};
 ghost use Rattle.pl_ports.specs.Failing.{fails_at};
 
 use crate::{Failed, Sink, SinkStop, Source};
@@ -90,6 +90,8 @@ impl Source for MemorySource {
         ensures kept { OnOk result (source_faults self.new ≡ source_faults self.old) }
         ensures rose { OnErr result (Rose (source_faults self.old) (source_faults self.new)) }
         ensures later { source_faults self.old ≤ source_faults self.new }
+        // Each failure counts once, and nothing else does.
+        ensures counted { OnErr result (source_faults self.new ≡ one_more (source_faults self.old)) }
         // Exactly the calls in the list fail.
         ensures fails { is_err result ≡ fails_at (source_failing self.old) (source_calls self.old) }
         ensures piece { IfOk result (λ n. n ≤ source_piece self.old) }
@@ -162,6 +164,9 @@ impl Sink for MemorySink {
         ensures kept { OnOk result (sink_faults self.new ≡ sink_faults self.old) }
         ensures rose { result ≡ Err SinkStop.Failed → Rose (sink_faults self.old) (sink_faults self.new) }
         ensures later { sink_faults self.old ≤ sink_faults self.new }
+        // Each failure counts once, and nothing else does.
+        ensures counted { result ≡ Err SinkStop.Failed → sink_faults self.new ≡ one_more (sink_faults self.old) }
+        ensures uncounted { result ≢ Err SinkStop.Failed → sink_faults self.new ≡ sink_faults self.old }
         // Exactly the calls in the list fail; another may want memory.
         ensures fails { (result ≡ Err SinkStop.Failed) ↔ IsTrue (fails_at (sink_failing self.old) (sink_calls self.old)) }
         ensures piece { IfOk result (λ n. n ≡ min (sink_piece self.old) (length piece.now)) }

@@ -1,6 +1,6 @@
 use crate::{
-    Failed, MemorySink, MemorySource, ReadStop, Sink, SinkStop, Source, StdinSource, StdoutSink,
-    SteadySink, SteadySource, put_all, put_pieces, read_all,
+    Actor, Failed, Gate, HoldGate, MemorySink, MemorySource, Point, ReadStop, Sink, SinkStop,
+    Source, StdinSource, StdoutSink, SteadySink, SteadySource, put_all, put_pieces, read_all,
 };
 use pl_units::Text;
 use std::alloc::Global;
@@ -25,6 +25,41 @@ impl io::Write for NoFlush {
 fn a_failed_flush_is_a_fault(rt: HostRuntime) {
     let mut sink = StdoutSink::new(NoFlush);
     assert!(rt; sink.write(b"ab") == Err(SinkStop::Failed));
+}
+
+// A writer that keeps what it was given, and how much of it was flushed.
+#[derive(Drop)]
+struct Kept {
+    bytes: Vec<u8>,
+    flushed: usize,
+}
+
+impl io::Write for Kept {
+    fn write(&mut self, buf: &[u8]) -> io::Result<usize> {
+        let count = buf.len().min(3);
+        match self.bytes.extend_from_slice(&buf[..count]) {
+            Ok(()) => Ok(count),
+            Err(_) => Err(io::Error::from(io::ErrorKind::OutOfMemory)),
+        }
+    }
+
+    fn flush(&mut self) -> io::Result<()> {
+        self.flushed = self.bytes.len();
+        Ok(())
+    }
+}
+
+#[test]
+fn a_writer_is_given_all_bytes_and_flushed(rt: HostRuntime) -> Result<(), Fail> {
+    let mut kept = Kept {
+        bytes: Vec::new(rt.alloc()),
+        flushed: 0,
+    };
+    let mut sink = StdoutSink::new(&mut kept);
+    assert!(rt; put_all(&mut sink, b"abcdefgh") == Ok(()));
+    assert!(rt; kept.bytes.as_slice() == b"abcdefgh".as_slice());
+    assert_eq!(rt; kept.flushed, 8);
+    Ok(())
 }
 
 #[test]
@@ -75,4 +110,59 @@ fn pieces_go_out_in_order(rt: HostRuntime) {
     let mut sink = SteadySink::new(rt.alloc());
     assert!(rt; put_pieces(&mut sink, &[b"a", b"", b"bc"]) == Ok(()));
     assert!(rt; sink.held() == b"abc".as_slice());
+}
+
+// What passes a gate, and whether it has overrun after that.
+#[derive(Drop)]
+struct Passing {
+    name: &'static str,
+    actor: Actor,
+    point: Point,
+    overran: bool,
+}
+
+#[test]
+fn a_gate_holds_the_first_start_of_its_slot_for_so_many_turns(rt: HostRuntime) {
+    let rows = [
+        Passing {
+            name: "a call too few",
+            actor: Actor::Session(1),
+            point: Point::Answered(1),
+            overran: false,
+        },
+        Passing {
+            name: "another session",
+            actor: Actor::Session(3),
+            point: Point::Answered(9),
+            overran: false,
+        },
+        Passing {
+            name: "another slot",
+            actor: Actor::Worker(1),
+            point: Point::Started(8),
+            overran: false,
+        },
+        Passing {
+            name: "an end",
+            actor: Actor::Worker(1),
+            point: Point::Finished(7),
+            overran: false,
+        },
+        Passing {
+            name: "the slot, before both have called",
+            actor: Actor::Worker(1),
+            point: Point::Started(7),
+            overran: true,
+        },
+    ];
+    let gate = HoldGate::new(7, 1, 2, 2, 10);
+    for row in &rows {
+        gate.pass(row.actor, row.point);
+        assert!(rt; gate.overran() == row.overran, "{}", row.name);
+    }
+    let gate = HoldGate::new(7, 1, 2, 2, 10);
+    gate.pass(Actor::Session(2), Point::Answered(3));
+    gate.pass(Actor::Session(1), Point::Answered(2));
+    gate.pass(Actor::Session(2), Point::Started(7));
+    assert!(rt; !gate.overran());
 }
