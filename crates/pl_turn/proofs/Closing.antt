@@ -10,7 +10,7 @@ use lib.ListN.{get_elem?}
 use Rattle.atomic_table.specs.Table.{State, opening, Final, Seen}
 use Rattle.pl_turn.specs.declared.view.Stage.TheVariants.{Idle}
 use Rattle.pl_turn.specs.declared.view.View.{View}
-use Rattle.pl_turn.specs.History.{HasItsEntries, FitsHistory}
+use Rattle.pl_turn.specs.History.{HasItsEntries, HasSeen, FitsHistory}
 use Rattle.pl_turn.specs.Rule.{opening_view, IsNotGiven, HasNoTurn, IsJoinedAt, IsInOrder, Turning}
 use Rattle.pl_turn.proofs.Lists.{at_end}
 use Rattle.pl_turn.proofs.Histories.{has_made}
@@ -85,8 +85,8 @@ module _ {X E H : Type 0} (history : X → List E) (home : X → H) (caller : E 
     each = λ at v is live. ⊎_elim
         (λ t. let low : at < 0 = t.0 in absurd (omega arith))
         (λ (t : (at ≡ 0) × (opening_view there ≡ v)). subst (λ (z : ℕ × View E H). IsInOrder caller log 0 0 0 there (λ n. cond (eqb n 1) (some 0) none) (λ t. 0) z.0 z.1) (λ i. (sym t.0 i, t.1 i)) record {
-          fits = (([], refl), (refl, All-nil (HasItsEntries caller log)));
-          fits_seen = (([], refl), (refl, All-nil (HasItsEntries caller log)));
+          fits = (([], refl), (refl, All-nil (HasItsEntries caller log)), All-nil (HasSeen log));
+          fits_seen = (([], refl), (refl, All-nil (HasItsEntries caller log)), All-nil (HasSeen log));
           seated = refl;
           home = refl;
           first = λ _. refl;

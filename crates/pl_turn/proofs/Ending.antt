@@ -13,7 +13,7 @@ use Rattle.pl_turn.specs.History.{Grows, FitsHistory}
 use Rattle.pl_turn.specs.Rule.{HasTicket, StageStands, IsJoinedAt, IsInOrder, Turning}
 use Rattle.pl_turn.specs.Steps.{after, ended}
 use Rattle.pl_turn.proofs.Lists.{prefix_self}
-use Rattle.pl_turn.proofs.Histories.{made_still, joined_grown, fits_grown}
+use Rattle.pl_turn.proofs.Histories.{made_still, joined_grown, seen_grown, fits_grown}
 use Rattle.pl_turn.proofs.Views.{each_set, still_out, only_one, slot_of}
 
 module _ {X E H : Type 0} (history : X → List E) (home : X → H) (caller : E → ℕ) (there : H) where
@@ -42,7 +42,7 @@ module _ {X E H : Type 0} (history : X → List E) (home : X → H) (caller : E 
       let k = subst (StageStands r.log r.ticket r.serving r.drawn id) is f.stage in
       let log : List E = history x in
       let g : Grows caller v.number r.log log = subst (λ (l : List E). Grows caller v.number l log) k.3 grows in
-      (prefix_self log, (refl, joined_grown caller v.joined v.number r.log log (All-weaker (IsJoinedAt r.seat id v.number) (λ j. j.number ≢ v.number) (λ j p. p.1) v.joined f.joined) g f.fits.1.1))
+      (prefix_self log, (refl, joined_grown caller v.joined v.number r.log log (All-weaker (IsJoinedAt r.seat id v.number) (λ j. j.number ≢ v.number) (λ j p. p.1) v.joined f.joined) g f.fits.1.1), seen_grown v.joined r.log log (g.0, g.1) f.fits.2)
 
   ends_turn : (s : S) (r : Rule s) (id t : ℕ) (me : M) (x : X) (found : List E) → get_elem? s.views id ≡ some me.0 → me.0.live ≡ true → me.0.stage ≡ Has t found
       → Grows caller me.0.number found (history x) → me.0.home ≡ Some (home x) → length s.homes ≡ 1

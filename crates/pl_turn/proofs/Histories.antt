@@ -1,13 +1,13 @@
 -- The entries of one number in a history that grows, and what fits it.
 use Rattle.std.proofs.Common.{◌≡◌, ◌≢◌, ℕ, zero, suc, ◌<◌, ◌==◌, Bool, true, false, eqb, List, [], ◌∷◌, ◌++◌, length, refl, ap, sym, ◌∙◌, cond, eq-eqb, ne_eqb, ltb, get_or, arith}
-use Rattle.std.proofs.lemmas.List.Elements.{filter-append, All-append, All-cons}
+use Rattle.std.proofs.lemmas.List.Elements.{filter-append, All-append, All-cons, All-head, All-tail, All-weaker}
 use Rattle.std.proofs.lemmas.List.{append-nil}
 use Rattle.std.proofs.lemmas.Bool.{ltb-true, ltb-false}
 use Rattle.std.specs.Prelude.{All}
 use mathlib.Core.List.{IsPrefix}
 use Rattle.pl_turn.specs.declared.view.Joined.{Joined}
 use Rattle.pl_turn.specs.declared.view.View.{View}
-use Rattle.pl_turn.specs.History.{made_by, Grows, HasItsEntries, FitsHistory}
+use Rattle.pl_turn.specs.History.{made_by, Grows, HasItsEntries, HasSeen, FitsHistory}
 use Rattle.pl_turn.specs.Steps.{joined_of, longer, with_joined}
 use Rattle.pl_turn.proofs.Lists.{prefix_self, prefix_trans, prefix_shorter, adds_none}
 
@@ -29,6 +29,18 @@ module _ {E : Type 0} (xs ys log : List E) (p : IsPrefix xs log) (q : IsPrefix y
 
   pub begins_longer : IsPrefix xs (longer xs ys) × IsPrefix ys (longer xs ys)
   begins_longer = (first_of (ltb (length xs) (length ys)) refl, second_of (ltb (length xs) (length ys)) refl)
+
+-- what was a beginning of a history is one of a longer one
+pub seen_grown : {E : Type 0} (js : List (Joined E)) (found now : List E) → IsPrefix found now → All (HasSeen found) js → All (HasSeen now) js
+seen_grown js found now p has = All-weaker (HasSeen found) (HasSeen now) (λ j h. (prefix_trans j.seen found now h.0 p, prefix_trans j.found found now h.1 p)) js has
+
+in_middle : {A : Type 0} (P : A → Type 0) (xs : List A) (y : A) (ys : List A) → All P (xs ++ y ∷ ys) → P y
+in_middle P [] y ys all = All-head P y ys all
+in_middle P (x ∷ xs) y ys all = in_middle P xs y ys (All-tail P x (xs ++ y ∷ ys) all)
+
+-- what each of two had seen begins what they have seen that are made one
+pub both_begin : {E H : Type 0} (v w : View E H) → All (HasSeen (longer v.seen w.seen)) (with_joined v w).joined → IsPrefix v.seen (longer v.seen w.seen) × IsPrefix w.seen (longer v.seen w.seen)
+both_begin v w all = let h = in_middle (HasSeen (longer v.seen w.seen)) v.joined (joined_of v.seen w) w.joined all in (h.1, h.0)
 
 module _ {E : Type 0} (caller : E → ℕ) where
   made-append : (n : ℕ) (xs ys : List E) → made_by caller n (xs ++ ys) ≡ made_by caller n xs ++ made_by caller n ys
@@ -74,6 +86,7 @@ module _ {E : Type 0} (caller : E → ℕ) where
     fits_grown v number found now other others g f = (
       prefix_trans v.seen found now f.0 (g.0, g.1),
       (f.1.0 ∙ sym (made_still v.number number found now other g), joined_grown v.joined number found now others g f.1.1),
+      seen_grown v.joined found now (g.0, g.1) f.2,
     )
 
     -- what fits what it has seen and the whole history fits all that lies between
@@ -84,12 +97,14 @@ module _ {E : Type 0} (caller : E → ℕ) where
         made_between v.number v.own v.seen l log p q f.1.0 g.1.0,
         All_both (HasItsEntries caller v.seen) (HasItsEntries caller log) (HasItsEntries caller l) v.joined (λ j has all. made_between j.number j.own v.seen l log p q has all) f.1.1 g.1.1,
       ),
+      seen_grown v.joined v.seen l p f.2,
     )
 
     fits_with : (v w : View E H) (l : List E) → IsPrefix (longer v.seen w.seen) l → FitsHistory caller v l → FitsHistory caller w l → FitsHistory caller (with_joined v w) l
     fits_with v w l p f g = (
       p,
-      (f.1.0, All-append (HasItsEntries caller l) v.joined (joined_of w ∷ w.joined) f.1.1 (All-cons (HasItsEntries caller l) (joined_of w) w.joined g.1.0 g.1.1)),
+      (f.1.0, All-append (HasItsEntries caller l) v.joined (joined_of v.seen w ∷ w.joined) f.1.1 (All-cons (HasItsEntries caller l) (joined_of v.seen w) w.joined g.1.0 g.1.1)),
+      All-append (HasSeen l) v.joined (joined_of v.seen w ∷ w.joined) f.2 (All-cons (HasSeen l) (joined_of v.seen w) w.joined (g.0, f.0) g.2),
     )
 
     -- two views that are made one fit the history, and what the one has seen of it

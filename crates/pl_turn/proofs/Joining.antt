@@ -40,11 +40,11 @@ module _ {X E H : Type 0} (history : X → List E) (home : X → H) (caller : E 
       let New : ℕ → ℕ → Joined E → Type 0 = IsJoinedAt seat in
       let Apart : Joined E → Joined E → Type 0 = λ a b. a.number ≢ b.number in
       let firsts : All (New id v.number) v.joined = All-weaker (Old id v.number) (New id v.number) (λ j o. (at_id j.number o.0, o.1, o.2)) v.joined f.joined in
-      let middle : New id v.number (joined_of w) = (at_other w.number g.seated, λ same. differs v.number w.number f.seated g.seated (sym same), not_first) in
+      let middle : New id v.number (joined_of v.seen w) = (at_other w.number g.seated, λ same. differs v.number w.number f.seated g.seated (sym same), not_first) in
       let lasts : All (New id v.number) w.joined = All-weaker (Old other w.number) (New id v.number) (λ j o. (at_other j.number o.0, λ same. differs v.number j.number f.seated o.0 (sym same), o.2)) w.joined g.joined in
-      let across : All (λ a. All (Apart a) (joined_of w ∷ w.joined)) v.joined = All-weaker (Old id v.number) (λ a. All (Apart a) (joined_of w ∷ w.joined))
-      (λ a p. All-cons (Apart a) (joined_of w) w.joined (differs a.number w.number p.0 g.seated) (All-weaker (Old other w.number) (Apart a) (λ b q. differs a.number b.number p.0 q.0) w.joined g.joined)) v.joined f.joined in
-      let behind : AllPairs Apart (joined_of w ∷ w.joined) = AllPairs-cons Apart (joined_of w) w.joined (All-weaker (Old other w.number) (Apart (joined_of w)) (λ b q same. q.1 (sym same)) w.joined g.joined) g.differ in record {
+      let across : All (λ a. All (Apart a) (joined_of v.seen w ∷ w.joined)) v.joined = All-weaker (Old id v.number) (λ a. All (Apart a) (joined_of v.seen w ∷ w.joined))
+      (λ a p. All-cons (Apart a) (joined_of v.seen w) w.joined (differs a.number w.number p.0 g.seated) (All-weaker (Old other w.number) (Apart a) (λ b q. differs a.number b.number p.0 q.0) w.joined g.joined)) v.joined f.joined in
+      let behind : AllPairs Apart (joined_of v.seen w ∷ w.joined) = AllPairs-cons Apart (joined_of v.seen w) w.joined (All-weaker (Old other w.number) (Apart (joined_of v.seen w)) (λ b q same. q.1 (sym same)) w.joined g.joined) g.differ in record {
         log = r.log;
         ticket = r.ticket;
         serving = r.serving;
@@ -64,8 +64,8 @@ module _ {X E H : Type 0} (history : X → List E) (home : X → H) (caller : E 
               home = f.home;
               first = f.first;
               stage = f.stage;
-              joined = All-append (New id v.number) v.joined (joined_of w ∷ w.joined) firsts (All-cons (New id v.number) (joined_of w) w.joined middle lasts);
-              differ = all_pairs_append Apart v.joined (joined_of w ∷ w.joined) f.differ behind across;
+              joined = All-append (New id v.number) v.joined (joined_of v.seen w ∷ w.joined) firsts (All-cons (New id v.number) (joined_of v.seen w) w.joined middle lasts);
+              differ = all_pairs_append Apart v.joined (joined_of v.seen w ∷ w.joined) f.differ behind across;
             })
             (λ i e ne at_i lives_i not_other. let o = r.each i e at_i lives_i in record {
               fits = o.fits;

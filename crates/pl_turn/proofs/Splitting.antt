@@ -10,7 +10,7 @@ use Rattle.atomic_table.proofs.Lists.{at_longer}
 use Rattle.pl_turn.specs.declared.view.Joined.{Joined}
 use Rattle.pl_turn.specs.declared.view.Stage.TheVariants.{Idle}
 use Rattle.pl_turn.specs.declared.view.View.{View}
-use Rattle.pl_turn.specs.History.{HasItsEntries}
+use Rattle.pl_turn.specs.History.{HasItsEntries, HasSeen}
 use Rattle.pl_turn.specs.Rule.{IsNotGiven, HasNoTurn, IsJoinedAt, IsInOrder, Turning}
 use Rattle.pl_turn.specs.Steps.{with_split, newborn}
 use Rattle.pl_turn.proofs.Lists.{prefix_self, at_end}
@@ -71,8 +71,8 @@ module _ {X E H : Type 0} (history : X → List E) (home : X → H) (caller : E 
             })
             j d t.1)
             (λ (t : (j ≡ length (set vs id left)) × (right ≡ d)). λ _. subst (λ (z : ℕ × View E H). F z.0 z.1) (λ i. (sym (t.0 ∙ longest) i, t.1 i)) record {
-              fits = (f.fits.0, (sym unborn.1, All-nil (HasItsEntries caller r.log)));
-              fits_seen = (prefix_self v.seen, (sym (none_before_any caller new v.seen r.log f.fits.0 unborn.1), All-nil (HasItsEntries caller v.seen)));
+              fits = (f.fits.0, (sym unborn.1, All-nil (HasItsEntries caller r.log)), All-nil (HasSeen r.log));
+              fits_seen = (prefix_self v.seen, (sym (none_before_any caller new v.seen r.log f.fits.0 unborn.1), All-nil (HasItsEntries caller v.seen)), All-nil (HasSeen v.seen));
               seated = right_here r.seat (some (length vs)) new new refl;
               home = f.home;
               first = λ is_one. absurd (omega arith);

@@ -8,6 +8,10 @@ use Rattle.pl_turn.specs.declared.view.View.{View}
 abbrev pub NumbersDiffer : {E : Type 0} → List (Joined E) → Type 0
 NumbersDiffer js = AllPairs (λ a b. a.number ≢ b.number) js
 
+-- what a joined pass had seen, and what the pass had seen into which it was joined, are beginnings of the history
+abbrev pub HasSeen : {E : Type 0} → List E → Joined E → Type 0
+HasSeen log j = IsPrefix j.seen log × IsPrefix j.found log
+
 module _ {E : Type 0} (caller : E → ℕ) where
   -- the entries of a number, in order
   abbrev pub made_by : ℕ → List E → List E
@@ -26,6 +30,6 @@ module _ {E : Type 0} (caller : E → ℕ) where
     abbrev pub KnowsItsEntries : View E H → List E → Type 0
     KnowsItsEntries v log = (v.own ≡ made_by v.number log) × All (HasItsEntries log) v.joined
 
-    -- and what was seen is a beginning of the history
+    -- and what was seen is a beginning of the history; and so what the passes had seen that were joined
     abbrev pub FitsHistory : View E H → List E → Type 0
-    FitsHistory v log = IsPrefix v.seen log × KnowsItsEntries v log
+    FitsHistory v log = IsPrefix v.seen log × KnowsItsEntries v log × All (HasSeen log) v.joined

@@ -41,7 +41,7 @@ module _ {X E H : Type 0} {g : Ghosts X E H} where
   AreOfOne p q = (q.seat.table_id ≡ p.seat.table_id) × (q.seat.me.0.home ≡ p.seat.me.0.home)
 
   -- the pass fits the history: what it has seen is a beginning of it, and its own entries are exactly those of its number
-  -- there, in order; and so are those of each pass that was joined into it
+  -- there, in order; and so for each pass that was joined into it
   abbrev pub Fits : Pass X E H g → List E → Type 0
   Fits p log = FitsHistory g.caller (known p) log
 

@@ -54,10 +54,10 @@ module _ {E H : Type 0} where
   abbrev pub spent_view : View E H
   spent_view = record { live = false; number = 0; seen = []; own = []; splits = 0; home = None; stage = Idle; joined = [] }
 
-  -- what is kept of it
-  abbrev pub joined_of : View E H → Joined E
-  joined_of v = record { number = v.number; own = v.own }
+  -- what is kept of it; `found` is what the other had seen
+  abbrev pub joined_of : List E → View E H → Joined E
+  joined_of found v = record { number = v.number; own = v.own; seen = v.seen; found = found }
 
   -- a pass into which another was joined
   abbrev pub with_joined : View E H → View E H → View E H
-  with_joined v w = record v { seen = longer v.seen w.seen; joined = v.joined ++ joined_of w ∷ w.joined }
+  with_joined v w = record v { seen = longer v.seen w.seen; joined = v.joined ++ joined_of v.seen w ∷ w.joined }

@@ -4,6 +4,7 @@
 //! Nothing is said of waiting: not that a turn comes, and not when.
 #![tactic(auto)]
 
+mod changes;
 mod lock;
 mod make;
 mod plays;

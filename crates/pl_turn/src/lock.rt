@@ -1,5 +1,6 @@
 //! The lock and its passes: how a pass is split off, and joined.
 ghost use Rattle.std.specs.Prelude.{◌≡◌, ◌≢◌, ℕ, ◌+◌, true, [], ◌∷◌, ◌++◌};
+ghost use mathlib.Core.List.{IsPrefix};
 ghost use Rattle.pl_turn.specs.declared.view.Stage.TheVariants.{Idle};
 ghost use Rattle.pl_turn.specs.History.{KnowsItsEntries, NumbersDiffer};
 ghost use Rattle.pl_turn.specs.Steps.{longer};
@@ -7,12 +8,15 @@ ghost use Rattle.pl_turn.specs.Steps.{longer};
 use crate::Turned;
 use crate::plays::{Confirm, Cut, Glue};
 use crate::view::{Board, Place};
+use std::sync::atomic::AtomicU64;
 
 /// A lock round a value that keeps a history. Threads share it by reference, and each takes its turns with a pass of its own. It
-/// has the home of the value that it was made with. It may be dropped where the value may, which is dropped with it.
+/// has the home of the value that it was made with. It may be dropped where the value may, which is dropped with it. Beside them
+/// it counts the changes that were told, on which threads sleep that found nothing to do.
 #[derive(Drop)]
 pub struct TurnLock<V: Turned> {
     pub(crate) board: Board<V>,
+    pub(crate) told: AtomicU64,
     ghost sized: { (board.shared.table_id.words ≡ 2) × (board.shared.table_id.slots ≡ 1) },
 }
 
@@ -50,11 +54,13 @@ impl<V: Turned> TurnLock<V> {
     {
         let mut seat = self.board.shared.split_seat::<Cut>(&mut pass.seat);
         self.board.shared.load::<Confirm<V>>(&mut seat, 1);
+        self.board.shared.load::<Confirm<V>>(&mut pass.seat, 1);
         Pass { seat }
     }
 
-    /// Joins another pass, which is not the first one, into this one: its number and its entries are kept, and those of the
-    /// passes that were joined into it. It takes no memory and doesn't wait.
+    /// Joins another pass, which is not the first one, into this one: its number, its entries and what it had seen are kept, and
+    /// those of the passes that were joined into it. What either had seen is a beginning of what the pass has seen now. It takes
+    /// no memory and doesn't wait.
     pub fn join(&self, pass: &mut Pass<V>, other: Pass<V>)
         requires lock { IsOf self.now pass.old }
         requires other_lock { IsOf self.now other }
@@ -63,9 +69,11 @@ impl<V: Turned> TurnLock<V> {
         ensures number { number pass.new ≡ number pass.old }
         ensures seen { seen pass.new ≡ longer (seen pass.old) (seen other) }
         ensures own { own pass.new ≡ own pass.old }
-        ensures joined { joined pass.new ≡ joined pass.old ++ record { number = number other; own = own other } ∷ joined other }
+        ensures joined { joined pass.new ≡ joined pass.old ++ record { number = number other; own = own other; seen = seen other; found = seen pass.old } ∷ joined other }
         ensures splits { splits pass.new ≡ splits pass.old }
         ensures fits { Fits pass.new (seen pass.new) }
+        ensures keeps { IsPrefix (seen pass.old) (seen pass.new) }
+        ensures gains { IsPrefix (seen other) (seen pass.new) }
         ensures differ { NumbersDiffer (joined pass.new) }
     {
         let Pass { seat } = other;

@@ -6,6 +6,7 @@ use crate::lock::{Pass, TurnLock};
 use atomic_table::{Refused, Table};
 use std::alloc::Global;
 use std::snapshot::Snapshot;
+use std::sync::atomic::AtomicU64;
 
 impl<V: Turned> TurnLock<V> {
     ghost use Rattle.pl_turn.specs.Passes.{Fits, HasJoined, HasJoinedAll, IsOf, home_of, joined, number, own, seen, splits};
@@ -33,7 +34,10 @@ impl<V: Turned> TurnLock<V> {
             return Err(value);
         }
         match Table::new(alloc, &[0, 0], slots, &about) {
-            Ok((board, seat)) => Ok((TurnLock { board }, Pass { seat })),
+            Ok((board, seat)) => {
+                let told = AtomicU64::new(0);
+                Ok((TurnLock { board, told }, Pass { seat }))
+            }
             Err(Refused { mut slots }) => {
                 let Some(Some(value)) = slots.pop() else {
                     unreachable!()
@@ -45,7 +49,8 @@ impl<V: Turned> TurnLock<V> {
     }
 
     /// Takes the value out of the lock for good, with the first pass, into which every other one was joined. Each entry of its
-    /// history is then one of the first pass, or of one that was joined into it. It takes no memory and doesn't wait.
+    /// history is then one of the first pass, or of one that was joined into it, and what each of them had seen is a beginning
+    /// of it. It takes no memory and doesn't wait.
     pub fn close(self, pass: Pass<V>) -> V
         requires lock { IsOf self pass }
         requires first { number pass ≡ 1 }
@@ -54,7 +59,7 @@ impl<V: Turned> TurnLock<V> {
         ensures makers { All (λ e. (V.caller e ≡ 1) ⊎ HasJoined pass (V.caller e)) (V.history result) }
         ensures home { V.home result ≡ home_of V.home self }
     {
-        let TurnLock { board } = self;
+        let TurnLock { board, told: _ } = self;
         let Pass { seat } = pass;
         let mut closed = board.close_with(seat);
         let slot = closed.take(0);

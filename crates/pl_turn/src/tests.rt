@@ -8,6 +8,7 @@ use std::sync::Wait;
 use std::test::Fail;
 use std::thread;
 use std::thread::{Promise, Threads};
+use std::time::{Clock, Duration};
 
 #[derive(Clone, Copy)]
 struct Line {
@@ -156,6 +157,56 @@ fn both_write<R: Threads + Wait + Sync>(
             Ok((one.join(rt), other.join(rt)))
         },
     )
+}
+
+// Waits until a change was told: how often it found none.
+fn looks<R: Wait>(rt: &R, lock: &TurnLock<Book>) -> u32 {
+    let mut found_none = 0_u32;
+    for _ in rt.forever() {
+        if lock.changes() != 0 {
+            return found_none;
+        }
+        found_none = found_none.saturating_add(1);
+        lock.wait_for_change(rt, 0);
+    }
+    unreachable!()
+}
+
+// Waits for a change on a thread of its own. It is told here, after a while.
+fn looks_beside<R: Threads + Wait + Clock + Sync>(
+    rt: &R,
+    lock: &TurnLock<Book>,
+) -> Result<u32, AllocError> {
+    thread::scope(
+        thread::scope_env(),
+        rt,
+        move |scope| -> Result<u32, AllocError> {
+            let there = scope.spawn(move || looks(rt, lock))?;
+            thread::sleep(rt, Duration::from_millis(30));
+            lock.tell_change();
+            Ok(there.join(rt))
+        },
+    )
+}
+
+#[test]
+fn a_turn_tells_a_change_exactly_where_it_adds_an_entry(rt: HostRuntime) -> Result<(), Fail> {
+    let (lock, first) = opened(rt.alloc())?;
+    assert_eq!(rt; lock.changes(), 0);
+    let (_, first) = write(&rt, &lock, first, 50, 1);
+    assert_eq!(rt; lock.changes(), 1);
+    lock.wait_for_change(&rt, 0);
+    let _ = lock.take(&rt, first).end();
+    assert_eq!(rt; lock.changes(), 1);
+    Ok(())
+}
+
+#[test]
+fn who_waits_for_a_change_sleeps_until_one_is_told(rt: HostRuntime) -> Result<(), Fail> {
+    let (lock, _) = opened(rt.alloc())?;
+    let looks = looks_beside(&rt, &lock)?;
+    assert!(rt; looks < 100);
+    Ok(())
 }
 
 #[test]

@@ -35,7 +35,7 @@ pub struct Out<L, V: Turned> {
 pub type Turn<'a, V> = Out<&'a TurnLock<V>, V>;
 
 impl<V: Turned> TurnLock<V> {
-    ghost use Rattle.pl_turn.specs.Passes.{Fits, IsOf, home_of};
+    ghost use Rattle.pl_turn.specs.Passes.{Fits, IsOf, home_of, seen};
     ghost use Rattle.pl_turn.specs.Turns.{IsAtItsLock, taken, taker, value_of};
 
     // Waits for the turn, and takes the value out of the slot.
@@ -87,7 +87,7 @@ impl<V: Turned> TurnLock<V> {
         requires home { V.home value ≡ V.home held.taken.value }
         ensures lock { result.seat.table_id ≡ held.pass.value.seat.table_id }
         ensures view { result.seat.me.0 ≡ after V.history V.caller held.pass.value.seat.me.0 value }
-        ensures fits { Fits result (V.history value) }
+        ensures fits { Fits result (seen result) }
     {
         let Held {
             mut seat,
@@ -124,7 +124,8 @@ impl<'a, V: Turned> Turn<'a, V> {
     ghost use Rattle.pl_turn.specs.Passes.{AreOfOne, Fits, joined, number, own, seen, splits};
     ghost use Rattle.pl_turn.specs.Turns.{IsAtItsLock, taken, taker, value_of};
 
-    /// Ends the turn and gives the value back, whose history and home are as they were taken. It takes no memory and doesn't wait.
+    /// Ends the turn and gives the value back, whose history and home are as they were taken. It tells no change. It takes no memory
+    /// and doesn't wait.
     pub fn end(self) -> Pass<V>
         requires lock { IsAtItsLock self }
         requires history { V.history (value_of self) ≡ V.history (taken self) }
@@ -135,14 +136,14 @@ impl<'a, V: Turned> Turn<'a, V> {
         ensures own { own result ≡ own (taker self.entry) }
         ensures joined { joined result ≡ joined (taker self.entry) }
         ensures splits { splits result ≡ splits (taker self.entry) }
-        ensures fits { Fits result (V.history (value_of self.entry)) }
+        ensures fits { Fits result (seen result) }
     {
         let Out { lock, held, value } = self;
         lock.give_back(held, value)
     }
 
     /// Ends the turn and gives the value back, whose history has exactly one entry more than it was taken with, of the pass's
-    /// number, and whose home is as it was taken. It takes no memory and doesn't wait.
+    /// number, and whose home is as it was taken. After that it tells a change. It takes no memory and doesn't wait.
     pub fn end_with(self) -> Pass<V>
         requires lock { IsAtItsLock self }
         requires history { (e : V.Entry) × (V.history (value_of self) ≡ V.history (taken self) ++ e ∷ []) × (V.caller e ≡ number (taker self)) }
@@ -153,9 +154,11 @@ impl<'a, V: Turned> Turn<'a, V> {
         ensures own { (e : V.Entry) → V.history (value_of self.entry) ≡ V.history (taken self.entry) ++ e ∷ [] → own result ≡ own (taker self.entry) ++ e ∷ [] }
         ensures joined { joined result ≡ joined (taker self.entry) }
         ensures splits { splits result ≡ splits (taker self.entry) }
-        ensures fits { Fits result (V.history (value_of self.entry)) }
+        ensures fits { Fits result (seen result) }
     {
         let Out { lock, held, value } = self;
-        lock.give_back(held, value)
+        let pass = lock.give_back(held, value);
+        lock.tell_change();
+        pass
     }
 }

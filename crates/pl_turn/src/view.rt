@@ -12,6 +12,10 @@ pub struct Joined<E> {
     pub number: u64,
     /// The entries that it made, in order.
     pub own: LinkedList<E>,
+    /// The history as far as it had seen it.
+    pub seen: LinkedList<E>,
+    /// The history as far as the pass had seen it into which it was joined.
+    pub found: LinkedList<E>,
 }
 
 /// How far a seat is with its turn.

@@ -1,6 +1,6 @@
 use Rattle.std.proofs.Common.{◌∷◌, Some, rules, arith, ap, refl, sym, subst, ◌∙◌}
 use Rattle.atomic_table.specs.Table.{rest}
-use Rattle.pl_turn.specs.History.{Grows}
+use Rattle.pl_turn.specs.History.{Grows, FitsHistory}
 use Rattle.pl_turn.specs.declared.view.View.{View}
 use Rattle.pl_turn.proofs.Ending.{ends}
 use Rattle.pl_turn.proofs.lock.TurnLock.give_back.Goals as goal
@@ -26,3 +26,9 @@ store-requires g c =
           (ap (λ (w : W). w.home) v ∙ (held.home ∙ ap Some (sym c.requires.home)))
           refl,
     )
+
+pub returns-clause-fits : goal.returns-clause-fits
+returns-clause-fits g c =
+    let t = g.V.Turned in
+    let holds = ap (λ p. p.1) c.exchange-none.ensures.3 ∙ ap (λ p. (0, Some c.args.value) ∷ rest p.1) c.args.held.out in
+    let h = c.store.ensures.2 c.args.value holds in subst (λ m. FitsHistory t.caller m.0 m.0.seen) (sym h.0) h.1
