@@ -13,10 +13,6 @@ module _ {W D F : Type 0} where
   abbrev pub May : (F → Type 0) → (F → W) → (W → D → Type 0) → Start D (Began W D) F → Type 0
   May pre of done s = CanRun pre (λ f d. done (of f) d) (λ (p : Began W D) d. done p.before.value d) s
 
--- what took in `f`, as it is now, and a value may run: `f` may be called on the value, and gives what work on that may come to
-abbrev pub IsAble : {W D N X : Type 0} → (N → W × Unit {0} → Type 0) → (N → W × Unit {0} → D → Type 0) → (X → N) → (X → W) → (W → D → Type 0) → X → Type 0
-IsAble pre post now of done x = pre (now x) (of x, tt) × ((d : _) → post (now x) (of x, tt) d → done (of x) d)
-
 -- what was refused may be run under another condition that follows, and comes to less
 pub can_widen : {E P F : Type 0} (pre may : F → Type 0) (post came : F → E → Type 0) (kept : P → E → Type 0) → ((f : F) → pre f → may f) → ((f : F) (e : E) → came f e → post f e) → (s : Start E P F) → CanRun pre post kept s → CanRun may came kept s
 can_widen pre may post came kept up down (Runs h) c = tt
