@@ -4,6 +4,7 @@ ghost use Rattle.pl_tech.specs.Technology.{Meaning, IsLawful};
 ghost use Rattle.pl_tech.specs.Slots.{has};
 ghost use Rattle.pl_tech.specs.Kept.{kept_at};
 ghost use Rattle.pl_tech.specs.Ran.{MatchRan};
+ghost use Rattle.pl_tech.specs.Sharing.{IsSharing, AllShare, KeepsOthers};
 
 use crate::{Kept, Problem, Slot, SlotSet};
 use pl_ports::Probe;
@@ -23,25 +24,28 @@ pub enum Ran<O> {
 /// A kind of print, as the machine needs it. Results are made by `run` alone, and `run` alone raises a bench's `runs`.
 pub trait Technology: Drop {
     /// What is printed.
-    type Plate: Drop + Send + Sync;
+    type Plate: Drop;
 
     /// One change of a plate.
-    type Edit: Drop + Send + Sync;
+    type Edit: Drop;
 
     /// What an edit answers.
-    type Reply: Copy + Drop + Send + Sync;
+    type Reply: Copy + Drop;
 
     /// The result of a slot.
-    type Output: Drop + Send + Sync;
+    type Output: Drop;
 
     /// The work that makes a slot's result, with all that it needs.
-    type Job: Drop + Send + Sync;
+    type Job: Drop;
 
     /// What a runner works at, from job to job.
-    type Bench: Drop + Send + Sync;
+    type Bench: Drop;
 
     /// What plates, edits and results mean.
     ghost meaning: { Meaning Self.Plate Self.Edit Self.Reply Self.Output };
+
+    /// That two plates have the part of a number alike. What a part is, the technology says.
+    ghost shares: { Self.Plate → Self.Plate → ℕ → Type 0 };
 
     /// How many runs were made at a bench.
     ghost runs: { Self.Bench → ℕ };
@@ -89,6 +93,28 @@ pub trait Technology: Drop {
     /// The slots whose results may differ between the plates.
     fn touched(old: &Self::Plate, new: &Self::Plate) -> SlotSet
         ensures { (k : ℕ) → has result k ≡ meaning.touched old.now new.now k };
+
+    /// The parts that an edit with this reply may have changed.
+    fn changes(edit: &Self::Edit, reply: &Self::Reply) -> SlotSet
+        ensures { KeepsOthers meaning shares edit.now reply.now result };
+
+    /// What `same` answers, where all parts but these are alike.
+    fn same_but(a: &Self::Plate, b: &Self::Plate, apart: SlotSet) -> bool
+        requires { AllShare shares apart a.now b.now }
+        ensures { result ≡ meaning.same a.now b.now }
+    {
+        let _ = apart;
+        Self::same(a, b)
+    }
+
+    /// What `touched` answers, where all parts but these are alike.
+    fn touched_but(old: &Self::Plate, new: &Self::Plate, apart: SlotSet) -> SlotSet
+        requires { AllShare shares apart old.now new.now }
+        ensures { (k : ℕ) → has result k ≡ meaning.touched old.now new.now k }
+    {
+        let _ = apart;
+        Self::touched(old, new)
+    }
 
     /// A bench with no runs yet.
     fn bench() -> Self::Bench
@@ -138,6 +164,9 @@ pub trait Technology: Drop {
     fn put_name(slot: Slot, out: &mut [u8; 16]) -> usize
         ensures short { result ≤ 16 }
         ensures name { take result out.new ≡ meaning.name slot };
+
+    /// To have a part alike goes onwards from plate to plate.
+    ghost sharing: { IsSharing shares };
 
     /// What the machine knows of every technology.
     ghost laws: { IsLawful meaning };

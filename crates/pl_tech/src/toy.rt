@@ -1,4 +1,4 @@
-ghost use Rattle.std.specs.Prelude.{◌≡◌, ℕ, IfOk};
+ghost use Rattle.std.specs.Prelude.{◌≡◌, ℕ, IfOk, ⊤};
 ghost use Rattle.pl_tech.specs.Toy.{both_text};
 
 use crate::{Kept, Problem, Ran, Slot, SlotSet, Technology, put_front};
@@ -64,13 +64,21 @@ impl Technology for Toy {
 
     ghost meaning = { toy_meaning };
 
+    ghost shares = { λ _ _ _. ⊤ };
+
     ghost runs = { λ b. b.runs };
 
     ghost job_value = { toy_job_value };
 
     ghost job_polls = { λ _. 1 };
 
+    ghost sharing = { record { itself = λ _ _. tt; onwards = λ _ _ _ _ _ _. tt } };
+
     ghost laws = { toy_laws };
+
+    fn changes(_edit: &ToyEdit, _reply: &()) -> SlotSet {
+        SlotSet::empty()
+    }
 
     fn blank(_alloc: Global) -> Result<ToyPlate, NoMemory> {
         Ok(ToyPlate { a: 0, b: 0 })
