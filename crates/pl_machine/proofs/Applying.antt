@@ -11,7 +11,7 @@ use Rattle.pl_machine.specs.Each.{each_slot, is_each_slot, length-each_slot, get
 use Rattle.pl_machine.specs.Applied.{IsApplied}
 use Rattle.pl_machine.proofs.Sound.{StayReady}
 use Rattle.pl_machine.proofs.Lasting.{and_not, untouched_present}
-use Rattle.pl_machine.specs.Machine.{Machine, IsSound, is_started, Replies, is_hit, is_invalid, mode_of, epoch_of, modes_after, epochs_after, called, after_command}
+use Rattle.pl_machine.specs.Machine.{Machine, IsCoherent, is_started, Replies, is_hit, is_invalid, mode_of, epoch_of, modes_after, epochs_after, called, after_command}
 
 same_each : {A : Type 0} (f g : ℕ → A) (d : A) → ((k : ℕ) → f k ≡ g k) → each_slot f ≡ each_slot g
 same_each f g d same = is_each_slot g (each_slot f) d (length-each_slot f) (λ k low. get_or-each_slot f k d low ∙ same k)
@@ -42,11 +42,11 @@ module _ {P E R O : Type 0} (m : Meaning P E R O) where
   hits st touched hit a b k = b k ∙ ap (λ t. t && not (is_invalid (mode_of st k))) (a k)
 
   -- an apply leaves what is held and untouched ready
-  pub apply_ready : IsLawful m → (st : Machine P) (hit : ℕ → Bool) → ((k : ℕ) → hit k ≡ is_hit m st k) → IsSound m st → StayReady m st st.edited hit
-  apply_ready laws st hit same sound k low not_hit held =
+  pub apply_ready : IsLawful m → (st : Machine P) (hit : ℕ → Bool) → ((k : ℕ) → hit k ≡ is_hit m st k) → IsCoherent m st → StayReady m st st.edited hit
+  apply_ready laws st hit same kept k low not_hit held =
       let a = st.applied in
       let b = st.edited in
-      let r = sound.held_ready k held in
+      let r = kept.held_ready k held in
       let un : m.touched a b k ≡ false = and_not (m.touched a b k) (is_invalid (mode_of st k)) (sym (same k) ∙ not_hit) held in
       let there : m.present b k ≡ true = untouched_present m laws a b k un r.present in
       (there, λ n need. stay n (r.needed n (laws.kept_needs a b k r.present there un n ∙ need)) (laws.needs_present b k n there need) need un there)
@@ -62,9 +62,9 @@ module _ {P E R O : Type 0} (m : Meaning P E R O) where
           ] refl
 
   -- a cancel leaves what is Done ready
-  pub cancel_ready : IsLawful m → (st : Machine P) (hit : ℕ → Bool) → ((k : ℕ) → hit k ≡ is_started (mode_of st k)) → IsSound m st → StayReady m st st.applied hit
-  cancel_ready laws st hit same sound k low not_hit held =
-      let r = sound.held_ready k held in
+  pub cancel_ready : IsLawful m → (st : Machine P) (hit : ℕ → Bool) → ((k : ℕ) → hit k ≡ is_started (mode_of st k)) → IsCoherent m st → StayReady m st st.applied hit
+  cancel_ready laws st hit same kept k low not_hit held =
+      let r = kept.held_ready k held in
       (r.present, λ n need. (laws.present_below st.applied n (laws.needs_present st.applied k n r.present need), same n ∙ ap is_started (r.needed n need), r.needed n need))
 
   pub cancel_is : (st : Machine P) (hit : ℕ) (i : ℕ) → ((k : ℕ) → has hit k ≡ is_started (mode_of st k))
@@ -76,8 +76,8 @@ module _ {P E R O : Type 0} (m : Meaning P E R O) where
       (same_each (λ k. cond (has hit k) (epoch_of st k + 1) (epoch_of st k)) (λ k. cond (is_started (mode_of st k)) (epoch_of st k + 1) (epoch_of st k)) 0 (λ k. ap (λ b. cond b (epoch_of st k + 1) (epoch_of st k)) (same k)))
 
   -- a started slot is present
-  pub started_present : (st : Machine P) (k : ℕ) → IsSound m st → (m.present st.applied k && is_started (mode_of st k)) ≡ is_started (mode_of st k)
-  started_present st k sound = of_mode (mode_of st k) refl
+  pub started_present : (st : Machine P) (k : ℕ) → IsCoherent m st → (m.present st.applied k && is_started (mode_of st k)) ≡ is_started (mode_of st k)
+  started_present st k kept = of_mode (mode_of st k) refl
     where
       and_true : (b : Bool) → b ≡ true → (b && true) ≡ true
       and_true b is = ap (λ v. v && true) is
@@ -88,5 +88,5 @@ module _ {P E R O : Type 0} (m : Meaning P E R O) where
 
       of_mode : (mode : Mode) → mode_of st k ≡ mode → (m.present st.applied k && is_started mode) ≡ is_started mode
       of_mode Invalid is = and_false (m.present st.applied k)
-      of_mode (Started a) is = and_true (m.present st.applied k) (sound.held_ready k (ap is_invalid is)).present
+      of_mode (Started a) is = and_true (m.present st.applied k) (kept.held_ready k (ap is_invalid is)).present
       of_mode Done is = and_false (m.present st.applied k)

@@ -4,5 +4,6 @@ pub mod Lasting
 pub mod Applying
 pub mod Looking
 pub mod Excluding
+pub mod Coherence
 pub mod Standing
 pub mod Replies

@@ -1,10 +1,10 @@
 -- What is found among the modes.
-use Rattle.std.proofs.Common.{◌≡◌, ◌≢◌, ℕ, ◌+◌, ◌<◌, ◌≤◌, ◌==◌, ◌||◌, inl, inr, Bool, true, false, not, ◌&&◌, length, refl, ap, sym, ◌∙◌, arith, get_or, None, Some, MatchOption}
+use Rattle.std.proofs.Common.{◌≡◌, ℕ, ◌+◌, ◌<◌, ◌≤◌, ◌==◌, ◌||◌, inl, inr, Bool, true, false, not, ◌&&◌, refl, ap, sym, ◌∙◌, arith, None, Some, MatchOption}
 use Rattle.std.specs.declared.option.Option.{Option}
 use Rattle.std.proofs.Math.ListN.{get_or-eq_default}
 use Rattle.std.proofs.lemmas.Bool.{cases_lt}
 use Rattle.std.proofs.lemmas.Bool.Decides.{nat_tests}
-use Rattle.pl_tech.specs.Technology.{Meaning, IsLawful}
+use Rattle.pl_tech.specs.Technology.{Meaning}
 use Rattle.pl_tech.specs.Slots.{has}
 use Rattle.pl_machine.specs.declared.look.Look.{Look}
 use Rattle.pl_machine.specs.declared.look.Look.TheVariants as look
@@ -12,7 +12,7 @@ use Rattle.pl_machine.specs.declared.entry.Mode.{Mode}
 use Rattle.pl_machine.specs.declared.entry.Mode.TheVariants.{Invalid, Started, Done}
 use Rattle.pl_machine.specs.Look.{looks}
 use Rattle.pl_machine.specs.Calls.{IsWhole, IsUndone}
-use Rattle.pl_machine.specs.Machine.{Machine, IsSound, mode_of, is_invalid, is_started, is_done}
+use Rattle.pl_machine.specs.Machine.{Machine, IsCoherent, mode_of, is_invalid, is_started, is_done}
 
 pub looks_held : (mode : Mode) → looks look.Held mode ≡ not (is_invalid mode)
 unfolding looks
@@ -65,12 +65,12 @@ and_false true = refl
 and_false false = refl
 
 module _ {P E R O : Type 0} (m : Meaning P E R O) where
-  pub found_all : (st : Machine P) (set : ℕ) (l : Look) (n found : ℕ) → IsSound m st → 100 ≤ n → IsFoundBelow (λ k. has set k && looks l (mode_of st k)) n found
+  pub found_all : (st : Machine P) (set : ℕ) (l : Look) (n found : ℕ) → IsCoherent m st → 100 ≤ n → IsFoundBelow (λ k. has set k && looks l (mode_of st k)) n found
       → (k : ℕ) → has found k ≡ (has set k && looks l (mode_of st k))
-  found_all st set l n found sound whole below k = elim (cases_lt k n) [
+  found_all st set l n found kept whole below k = elim (cases_lt k n) [
     | inl low ↦ below.done k low
     | inr far ↦ below.left k far
-        ∙ sym (ap (λ mode. has set k && looks l mode) (get_or-eq_default st.modes Invalid (omega (arith, sound.modes_long))) ∙ ap (λ b. has set k && b) (looks_invalid l) ∙ and_false (has set k))
+        ∙ sym (ap (λ mode. has set k && looks l mode) (get_or-eq_default st.modes Invalid (omega (arith, kept.modes_long))) ∙ ap (λ b. has set k && b) (looks_invalid l) ∙ and_false (has set k))
   ]
 
   -- the present slots without those that are Done

@@ -1,13 +1,10 @@
 -- A start that is not closed stays pending, and where the epochs agree its value is the slot's.
-use Rattle.std.proofs.Common.{◌≡◌, ℕ, ◌<◌, inl, inr, true, false, List, [], ◌∷◌, ◌++◌, length, get_or, set, refl, ap, sym, subst, ◌∙◌, None, Some, arith, get_or-set_same, get_or-set_other}
-use Rattle.std.proofs.lemmas.List.{get_or-replicate, length-set, length-replicate}
+use Rattle.std.proofs.Common.{◌≡◌, ℕ, ◌<◌, inl, inr, true, false, List, [], ◌∷◌, ◌++◌, get_or, set, refl, ap, sym, subst, ◌∙◌, None, Some, arith, get_or-set_same, get_or-set_other}
 use Rattle.std.proofs.lemmas.Bool.Decides.{eqb_tells}
 use Rattle.std.specs.declared.option.Option.{Option}
 use Rattle.pl_tech.specs.Technology.{Meaning, IsLawful}
 use Rattle.pl_ports.specs.declared.gate.Actor.{Actor}
 use Rattle.pl_machine.specs.declared.entry.Pending.{Pending}
-use Rattle.pl_machine.specs.declared.entry.Mode.{Mode}
-use Rattle.pl_machine.specs.Each.{length-each_slot}
 use Rattle.pl_machine.specs.declared.entry.Mode.TheVariants.{Invalid, Started}
 use Rattle.pl_machine.specs.declared.entry.Command.{Command}
 use Rattle.pl_machine.specs.declared.entry.Command.TheVariants.{Edit, Apply, Export, Status, Cancel, After}
@@ -20,6 +17,7 @@ use Rattle.pl_machine.specs.Tickets.{closes, HasNotClosed, start_of, StandsIn}
 use Rattle.pl_machine.proofs.Sound.{seat_below, same_seat}
 use Rattle.pl_machine.proofs.Runs.{replay_from-append, run_split, replay_split}
 use Rattle.pl_machine.proofs.Lasting.{is_stable}
+use Rattle.pl_machine.proofs.Coherence.{coherent_history}
 
 module _ {P E R O : Type 0} (m : Meaning P E R O) where
   -- a command leaves what is pending
@@ -30,14 +28,6 @@ module _ {P E R O : Type 0} (m : Meaning P E R O) where
   command_pending st Export i = refl
   command_pending st Status i = refl
   command_pending st (After s n) i = refl
-
-  command_modes : (st : Machine P) (c : Command E) (i : ℕ) → length st.modes ≡ 100 → length (called (after_command m st c) i).modes ≡ 100
-  command_modes st (Edit e) i long = long
-  command_modes st Apply i long = length-each_slot _
-  command_modes st Cancel i long = length-each_slot _
-  command_modes st Export i long = long
-  command_modes st Status i long = long
-  command_modes st (After s n) i long = long
 
   -- another seat is written
   written : (st : Machine P) (actor a : Actor) (v : Option Pending) (p : Pending) → IsActor actor → IsActor a → (actor ≡ a → ⊥)
@@ -55,28 +45,6 @@ module _ {P E R O : Type 0} (m : Meaning P E R O) where
     pub value_is : epoch_of st slot ≡ epoch → value ≡ m.value st.applied slot
 
   module _ {T J B : Type 0} where
-    step_long : (st : Machine P) (a : Actor) (w : What T P E R O J B) → length st.pending ≡ 24 → length (next m st a w).pending ≡ 24
-    step_long st a (Call command reply) long = ap length (command_pending st command (session_of a)) ∙ long
-    step_long st a (Start slot e) long = rw length-set long
-    step_long st a (Finish slot e) long = rw length-set long
-    step_long st a (Late slot since now) long = rw length-set long
-    step_long st a Bye long = long
-
-    step_modes : (st : Machine P) (a : Actor) (w : What T P E R O J B) → length st.modes ≡ 100 → length (next m st a w).modes ≡ 100
-    step_modes st a (Call command reply) long = command_modes st command (session_of a) long
-    step_modes st a (Start slot e) long = rw length-set long
-    step_modes st a (Finish slot e) long = rw length-set long
-    step_modes st a (Late slot since now) long = long
-    step_modes st a Bye long = long
-
-    run_modes : (st : Machine P) (es : List (Entry T P E R O J B)) → length st.modes ≡ 100 → length (replay_from m st es).modes ≡ 100
-    run_modes st [] long = long
-    run_modes st (e ∷ es) long = run_modes (next m st e.actor e.what) es (step_modes st e.actor e.what long)
-
-    run_long : (st : Machine P) (es : List (Entry T P E R O J B)) → length st.pending ≡ 24 → length (replay_from m st es).pending ≡ 24
-    run_long st [] long = long
-    run_long st (e ∷ es) long = run_long (next m st e.actor e.what) es (step_long st e.actor e.what long)
-
     step_pending : (st : Machine P) (a : Actor) (w : What T P E R O J B) (actor : Actor) (p : Pending) → IsActor actor → pending_of st actor ≡ Some p
         → Allows m st a w → (a ≡ actor → closes w ≡ false) → pending_of (next m st a w) actor ≡ Some p
     step_pending st a (Call command reply) actor p ok is may not = ap (λ ps. get_or ps (seat_of actor) None) (command_pending st command (session_of a)) ∙ is
@@ -109,13 +77,13 @@ module _ {P E R O : Type 0} (m : Meaning P E R O) where
         let at : replay m first ≡ started (replay m stands.before) actor slot epoch = replay_from-append m (blank m) stands.before (start_of actor slot epoch) in
         let low : slot < 100 = laws.present_below _ slot starts.can.ready.present in
         let there : replay m history ≡ replay_from m (replay m first) stands.rest = ap (replay m) stands.split ∙ replay_split m (blank m) first stands.rest in
-        let long : length (replay m stands.before).pending ≡ 24 = run_long (blank m) stands.before (length-replicate {A = Option Pending} 24 None) in
+        let kept = coherent_history m laws stands.before (run_split m (blank m) stands.before (start_of actor slot epoch ∷ []) runs.0).0 in
         let began : pending_of (replay m first) actor ≡ Some (record { slot = slot; epoch = epoch }) =
         ap (λ s. pending_of s actor) at ∙ get_or-set_same (replay m stands.before).pending (seat_of actor) (Some (record { slot = slot; epoch = epoch })) None
-        (let b = seat_below actor starts.actor_is in omega (arith, b, long)) in
+        (let b = seat_below actor starts.actor_is in omega (arith, b, kept.pending_long)) in
         let mode : mode_of (replay m first) slot ≡ Started actor =
         ap (λ s. mode_of s slot) at ∙ get_or-set_same (replay m stands.before).modes slot (Started actor) Invalid
-        (let b = run_modes (blank m) stands.before (length-replicate {A = Mode} 100 Invalid) in omega (arith, b, low)) in
+        (omega (arith, kept.modes_long, low)) in
         record {
           actor_is = starts.actor_is;
           pending = ap (λ s. pending_of s actor) there ∙ run_pending (replay m first) stands.rest actor (record { slot = slot; epoch = epoch }) starts.actor_is began runs.1 stands.unclosed;

@@ -3,7 +3,7 @@ use Rattle.std.specs.Prelude.{◌≡◌, ◌≢◌, ℕ, ◌<◌, ◌≤◌, tru
 use Rattle.pl_tech.specs.Technology.{Meaning}
 use Rattle.pl_machine.specs.declared.entry.Mode.TheVariants.{Done}
 use Rattle.pl_machine.specs.declared.entry.Command.{Command}
-use Rattle.pl_machine.specs.declared.entry.Command.TheVariants.{Edit, Apply, Export, Status, Cancel, After}
+use Rattle.pl_machine.specs.declared.entry.Command.TheVariants.{Edit, Apply, Export, After}
 use Rattle.pl_machine.specs.declared.entry.Reply.{Reply}
 use Rattle.pl_machine.specs.declared.entry.Answer.{Answer}
 use Rattle.pl_machine.specs.declared.entry.Answer.TheVariants.{Now, NotYet, Behind}

@@ -8,3 +8,4 @@ pub mod Stability
 pub mod Applied
 pub mod Startable
 pub mod Tickets
+pub mod Plates

@@ -1,5 +1,5 @@
 -- Ways that a mode is looked for.
-use Rattle.std.specs.Prelude.{◌≡◌, Bool, not, refl}
+use Rattle.std.specs.Prelude.{Bool, not}
 use Rattle.pl_machine.specs.declared.look.Look.{Look}
 use Rattle.pl_machine.specs.declared.look.Look.TheVariants.{Held, Started, Done}
 use Rattle.pl_machine.specs.declared.entry.Mode.{Mode}

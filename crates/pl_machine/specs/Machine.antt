@@ -78,6 +78,11 @@ module _ {P : Type 0} where
   abbrev pub has_left : Machine P → ℕ → Bool
   has_left st session = slice_index_or st.left (session - 1) false
 
+  -- whether an actor has left: a session that has said bye. A worker never leaves
+  abbrev pub is_gone : Machine P → Actor → Bool
+  is_gone st (Session i) = has_left st i
+  is_gone st (Worker k) = false
+
   -- the slots that hit become Invalid, and their epochs rise
   abbrev pub modes_after : Machine P → (ℕ → Bool) → List Mode
   modes_after st hit = each_slot (λ k. if hit k then Invalid else mode_of st k)
@@ -106,6 +111,19 @@ module _ {P : Type 0} where
 -- what an actor has pending is Started by it at that epoch, or the slot's epoch is above
 abbrev pub Stands : {P : Type 0} → Machine P → Actor → Pending → Type 0
 Stands st actor p = (p.epoch < epoch_of st p.slot) ⊎ ((mode_of st p.slot ≡ Started actor) × (epoch_of st p.slot ≡ p.epoch))
+
+-- who has left has nothing pending
+abbrev pub LeftAreIdle : {P : Type 0} → Machine P → Type 0
+LeftAreIdle st = (i : ℕ) → 1 ≤ i → i ≤ 16 → has_left st i ≡ true → pending_of st (Session i) ≡ None
+
+-- the slot is pending at the actor, with the slot's epoch
+pub record IsPendingAt {P : Type 0} (st : Machine P) (actor : Actor) (slot : ℕ) : Type 0 where
+  pub actor_is : IsActor actor
+  pub pending : pending_of st actor ≡ Some (record { slot = slot; epoch = epoch_of st slot })
+
+-- each slot that is started is pending at the actor that works at it
+abbrev pub StartedArePending : {P : Type 0} → Machine P → Type 0
+StartedArePending st = (slot : ℕ) (actor : Actor) → mode_of st slot ≡ Started actor → IsPendingAt st actor slot
 
 -- what the actor has pending may be finished, or is late
 pub record Finishes {P : Type 0} (st : Machine P) (actor : Actor) (slot epoch : ℕ) : Type 0 where
@@ -157,7 +175,12 @@ module _ {P E R O : Type 0} (m : Meaning P E R O) where
     pub present : m.present st.applied slot ≡ true
     pub needed : (n : ℕ) → m.needs st.applied slot n ≡ true → mode_of st n ≡ Done
 
-  -- an actor that has nothing pending may start the slot
+  -- the slot is Invalid and ready, whatever problem the plate has
+  pub record IsOpen (st : Machine P) (slot : ℕ) : Type 0 where
+    pub invalid : mode_of st slot ≡ Invalid
+    pub ready : IsReady st slot
+
+  -- an actor that has nothing pending and has not left may start the slot
   pub record CanStart (st : Machine P) (slot : ℕ) : Type 0 where
     pub no_problem : m.problem st.applied ≡ None
     pub invalid : mode_of st slot ≡ Invalid
@@ -166,23 +189,30 @@ module _ {P E R O : Type 0} (m : Meaning P E R O) where
   -- the actor may start the slot, at this epoch
   pub record Starts (st : Machine P) (actor : Actor) (slot epoch : ℕ) : Type 0 where
     pub actor_is : IsActor actor
+    pub stays : is_gone st actor ≡ false
     pub free : pending_of st actor ≡ None
     pub can : CanStart st slot
     pub current : epoch_of st slot ≡ epoch
 
-  -- what every state that can be reached keeps
-  pub record IsSound (st : Machine P) : Type 0 where
+  -- what the state after every legal history keeps
+  pub record IsCoherent (st : Machine P) : Type 0 where
     pub modes_long : length st.modes ≡ 100
     pub epochs_long : length st.epochs ≡ 100
     pub calls_long : length st.calls ≡ 16
-    pub calls_fit : All (λ n. n ≤ 2 ^ 32 - 1) st.calls
-    -- no epoch is above the number of calls
-    pub epochs_low : (k : ℕ) → epoch_of st k ≤ sum st.calls
     pub left_long : length st.left ≡ 16
     pub pending_long : length st.pending ≡ 24
     pub pending_stands : (actor : Actor) (p : Pending) → IsActor actor → pending_of st actor ≡ Some p → Stands st actor p
+    pub started_pending : StartedArePending st
+    pub left_idle : LeftAreIdle st
     -- what is started or done is present, and all that it needs is Done
     pub held_ready : (k : ℕ) → is_invalid (mode_of st k) ≡ false → IsReady st k
+
+  -- what every state of the program keeps
+  pub record IsSound (st : Machine P) : Type 0 where
+    pub kept : IsCoherent st
+    pub calls_fit : All (λ n. n ≤ 2 ^ 32 - 1) st.calls
+    -- no epoch is above the number of calls
+    pub epochs_low : (k : ℕ) → epoch_of st k ≤ sum st.calls
 
   module _ {T J B : Type 0} where
     -- the command has this reply

@@ -1,5 +1,5 @@
 -- When a start that is not closed stands in a history.
-use Rattle.std.specs.Prelude.{◌≡◌, ℕ, ◌+◌, Bool, true, false, List, [], ◌∷◌, ◌++◌}
+use Rattle.std.specs.Prelude.{◌≡◌, ◌≢◌, ℕ, ◌+◌, Bool, true, false, List, [], ◌∷◌, ◌++◌}
 use Rattle.pl_tech.specs.Technology.{Meaning}
 use Rattle.pl_ports.specs.declared.gate.Actor.{Actor}
 use Rattle.pl_ports.specs.declared.gate.Actor.TheVariants.{Session, Worker}
@@ -21,6 +21,11 @@ module _ {T P E R O J B : Type 0} where
   abbrev pub HasNotClosed : Actor → List (Entry T P E R O J B) → Type 0
   HasNotClosed actor [] = Unit {0}
   HasNotClosed actor (e ∷ es) = (e.actor ≡ actor → closes e.what ≡ false) × HasNotClosed actor es
+
+  -- none of these entries is the actor's
+  abbrev pub HasNoneBy : Actor → List (Entry T P E R O J B) → Type 0
+  HasNoneBy actor [] = Unit {0}
+  HasNoneBy actor (e ∷ es) = (e.actor ≢ actor) × HasNoneBy actor es
 
   abbrev pub start_of : Actor → ℕ → ℕ → Entry T P E R O J B
   start_of actor slot epoch = record { actor = actor; what = Start slot epoch }

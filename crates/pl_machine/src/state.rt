@@ -5,12 +5,13 @@ ghost use Rattle.pl_tech.specs.Slots.{has};
 ghost use Rattle.std.specs.Int.{bit_at};
 ghost use Rattle.pl_machine.specs.Applied.{IsApplied};
 ghost use Rattle.pl_machine.specs.Each.{each_slot};
-ghost use Rattle.pl_machine.specs.Startable.{IsLeast, HasNone, AllLeft};
+ghost use Rattle.pl_machine.specs.Startable.{IsLeast, IsLeastOpen, HasNone, HasNoneOpen, AllLeft};
 ghost use Rattle.pl_machine.specs.Look.{looks};
-ghost use Rattle.pl_machine.specs.Machine.{MayCall, has_left, Replies, calls_of, called, after_command, is_started, without, blank, epoch_of, mode_of, pending_of, seat_of, IsActor, CanStart, Starts, Finishes, Drops, started, finished, freed};
+ghost use Rattle.pl_machine.specs.Machine.{MayCall, has_left, Replies, calls_of, called, after_command, is_started, without, blank, epoch_of, mode_of, pending_of, seat_of, IsActor, IsOpen, CanStart, Starts, is_gone, Finishes, Drops, started, finished, freed};
 
 use crate::entry::{Answer, Command, Mode, Pending, Reply};
 use crate::look::Look;
+use crate::plates::Plates;
 use pl_ports::Actor;
 use pl_tech::{Slot, SlotSet, Technology};
 use pl_units::{NoMemory, Shared};
@@ -86,8 +87,7 @@ fn fall(modes: &mut [Mode; 100], epochs: &mut [u64; 100], hit: SlotSet)
 /// The state of the machine.
 #[derive(Drop)]
 pub struct State<T: Technology> {
-    edited: T::Plate,
-    applied: T::Plate,
+    plates: Plates<T>,
     modes: [Mode; 100],
     epochs: [u64; 100],
     calls: [u32; 16],
@@ -100,9 +100,9 @@ impl<T: Technology> Model for State<T> {
 
     ghost Value = { Machine T.Plate };
 
-    ghost view = { λ s. record { edited = s.edited; applied = s.applied; modes = s.modes; epochs = s.epochs; calls = s.calls; left = s.left; pending = s.pending } };
+    ghost view = { λ s. record { edited = s.plates.edited; applied = s.plates.applied; modes = s.modes; epochs = s.epochs; calls = s.calls; left = s.left; pending = s.pending } };
 
-    ghost invariant = { λ s. IsSound T.meaning (record { edited = s.edited; applied = s.applied; modes = s.modes; epochs = s.epochs; calls = s.calls; left = s.left; pending = s.pending }) };
+    ghost invariant = { λ s. IsSound T.meaning (record { edited = s.plates.edited; applied = s.plates.applied; modes = s.modes; epochs = s.epochs; calls = s.calls; left = s.left; pending = s.pending }) };
 }
 
 impl<T: Technology> State<T> {
@@ -113,11 +113,9 @@ impl<T: Technology> State<T> {
     pub fn blank(alloc: Global) -> Result<State<T>, NoMemory>
         ensures { IfOk result (λ s. s ≡ blank T.meaning) }
     {
-        let edited = T::blank(alloc)?;
-        let applied = T::blank(alloc)?;
+        let plates = Plates::blank(alloc)?;
         Ok(State {
-            edited,
-            applied,
+            plates,
             modes: [Mode::Invalid; 100],
             epochs: [0; 100],
             calls: [0; 16],
@@ -130,7 +128,7 @@ impl<T: Technology> State<T> {
     pub fn applied(&self) -> &T::Plate
         ensures { result.now ≡ self.now.applied }
     {
-        &self.applied
+        self.plates.applied()
     }
 
     /// How the slot stands.
@@ -168,24 +166,60 @@ impl<T: Technology> State<T> {
         self.pending[seat_of(actor)]
     }
 
-    // Whether an actor with nothing pending may start the slot.
+    // Whether the actor has left. A worker never does.
+    fn is_gone(&self, actor: Actor) -> bool
+        requires { IsActor actor }
+        ensures { result ≡ is_gone self.now actor }
+    {
+        match actor {
+            Actor::Session(i) => self.left[i as usize - 1],
+            Actor::Worker(_) => false,
+        }
+    }
+
+    // Whether the slot is Invalid, one of these, which are the present ones, and has all that it needs.
+    fn is_open(&self, present: SlotSet, slot: Slot) -> bool
+        requires { (k : ℕ) → has present k ≡ T.meaning.present self.now.applied k }
+        ensures { IsTrue result ↔ IsOpen T.meaning self.now slot }
+    {
+        if self.mode(slot) != Mode::Invalid {
+            return false;
+        }
+        present.has(slot) && self.all_done(T::needs(self.plates.applied(), slot))
+    }
+
+    // Whether an actor with nothing pending that has not left may start the slot.
     fn can_start(&self, slot: Slot) -> bool
         ensures { IsTrue result ↔ CanStart T.meaning self.now slot }
     {
-        T::present(&self.applied).has(slot)
-            && self.mode(slot) == Mode::Invalid
-            && T::problem(&self.applied).is_none()
-            && self.all_done(T::needs(&self.applied, slot))
+        self.is_open(T::present(self.plates.applied()), slot)
+            && T::problem(self.plates.applied()).is_none()
     }
 
     /// Whether the machine has a start of this actor and slot.
     pub fn is_ready(&self, actor: Actor, slot: Slot) -> bool
         ensures { IsTrue result ↔ Starts T.meaning self.now actor slot (epoch_of self.now slot) }
     {
-        is_actor(actor) && self.pending(actor).is_none() && self.can_start(slot)
+        is_actor(actor)
+            && !self.is_gone(actor)
+            && self.pending(actor).is_none()
+            && self.can_start(slot)
     }
 
-    /// Starts the slot, where the machine has that start, and answers its epoch; else changes nothing.
+    /// Starts the slot, and answers its epoch. The machine has that start.
+    pub fn begin(&mut self, actor: Actor, slot: Slot) -> u64
+        requires { Starts T.meaning self.old actor slot (epoch_of self.old slot) }
+        ensures epoch { result ≡ epoch_of self.old slot }
+        ensures state { self.new ≡ started self.old actor slot result }
+    {
+        let epoch = self.epoch(slot);
+        self.modes[slot.number() as usize] = Mode::Started(actor);
+        self.pending[seat_of(actor)] = Some(Pending { slot, epoch });
+        epoch
+    }
+
+    /// Starts the slot, where the machine has that start, and answers its epoch; else changes nothing. An actor that has left has
+    /// none.
     pub fn start(&mut self, actor: Actor, slot: Slot) -> Start
         ensures step { MatchStart result (λ e. Starts T.meaning self.old actor slot e) (self.new ≡ self.old) }
         ensures state { MatchStart result (λ e. self.new ≡ started self.old actor slot e) (self.new ≡ self.old) }
@@ -194,10 +228,7 @@ impl<T: Technology> State<T> {
         if !self.is_ready(actor, slot) {
             return Start::NotReady;
         }
-        let epoch = self.epoch(slot);
-        self.modes[slot.number() as usize] = Mode::Started(actor);
-        self.pending[seat_of(actor)] = Some(Pending { slot, epoch });
-        Start::At(epoch)
+        Start::At(self.begin(actor, slot))
     }
 
     /// Closes what the actor has pending. It is `Published` where the slot's epoch is the one at the start, and `Late` exactly
@@ -226,18 +257,30 @@ impl<T: Technology> State<T> {
         }
     }
 
-    /// The least slot that an actor with nothing pending may start. None exactly where there is none.
-    pub fn startable(&self) -> Option<Slot>
-        ensures { MatchOption result (HasNone T.meaning self.now) (λ s. IsLeast T.meaning self.now s) }
+    // The least slot that is Invalid and has all that it needs, whatever problem the plate has.
+    fn open_slot(&self) -> Option<Slot>
+        ensures { MatchOption result (HasNoneOpen T.meaning self.now) (λ s. IsLeastOpen T.meaning self.now s) }
     {
-        let _ = &self.modes;
+        let present = T::present(self.plates.applied());
         for n in 0..100u8 {
             let slot = Slot::of(n);
-            if self.can_start(slot) {
+            if self.is_open(present, slot) {
                 return Some(slot);
             }
         }
         None
+    }
+
+    /// The least slot that an actor with nothing pending that has not left may start. None exactly where there is none. Where no
+    /// slot of the plate is Invalid, its problem and what its slots need are not looked at.
+    pub fn startable(&self) -> Option<Slot>
+        ensures { MatchOption result (HasNone T.meaning self.now) (λ s. IsLeast T.meaning self.now s) }
+    {
+        let slot = self.open_slot()?;
+        match T::problem(self.plates.applied()) {
+            None => Some(slot),
+            Some(_) => None,
+        }
     }
 
     // Whether session n + 1 has left. A session above 16 has not.
@@ -367,14 +410,14 @@ impl<T: Technology> State<T> {
         ensures { (k : ℕ) → has result k ≡ is_started (mode_of self.now k) }
     {
         let _ = &self.modes;
-        self.found(T::present(&self.applied), Look::Started)
+        self.found(T::present(self.plates.applied()), Look::Started)
     }
 
     // The least present slot that is not done.
     fn undone(&self) -> Option<Slot>
         ensures { MatchOption result (IsWhole T.meaning self.now) (IsUndone T.meaning self.now) }
     {
-        let present = T::present(&self.applied);
+        let present = T::present(self.plates.applied());
         present.minus(self.found(present, Look::Done)).least()
     }
 
@@ -395,7 +438,7 @@ impl<T: Technology> State<T> {
         ensures state { OnOk result (self.new ≡ called (after_command T.meaning self.old (Command.Edit edit.now)) session) }
         ensures err { OnErr result (self.new ≡ self.old) }
     {
-        let reply = T::edit(alloc, &mut self.edited, edit)?;
+        let reply = self.plates.edit(alloc, edit)?;
         self.calls[session as usize - 1] += 1;
         Ok(Reply::Edited(reply))
     }
@@ -408,11 +451,11 @@ impl<T: Technology> State<T> {
         ensures state { OnOk result (self.new ≡ called (after_command T.meaning self.old Command.Apply) session) }
         ensures err { OnErr result (self.new ≡ self.old) }
     {
-        let copied = T::copy(alloc, &self.edited)?;
-        let hit = self.found(T::touched(&self.applied, &self.edited), Look::Held);
-        let same = T::same(&self.applied, &self.edited);
+        let copied = self.plates.copied(alloc)?;
+        let hit = self.found(self.plates.touched(), Look::Held);
+        let same = self.plates.same();
         fall(&mut self.modes, &mut self.epochs, hit);
-        self.applied = copied;
+        self.plates.settle(copied);
         self.calls[session as usize - 1] += 1;
         Ok(applied_reply(same, hit))
     }
@@ -435,7 +478,7 @@ impl<T: Technology> State<T> {
     fn status(&self) -> Reply<T>
         ensures { Replies T.meaning self.now Command.Status result }
     {
-        let present = T::present(&self.applied);
+        let present = T::present(self.plates.applied());
         Reply::Modes {
             present,
             started: self.found(present, Look::Started),
@@ -448,7 +491,7 @@ impl<T: Technology> State<T> {
         requires given { IsGiven T.meaning self.now Command.Export (option_map (λ x. arc_value x.now) export) }
         ensures step { IfOk result (λ a. MatchAnswer a (λ r. Replies T.meaning self.now Command.Export r) (IsNotYet T.meaning self.now) (λ _. ⊥)) }
     {
-        if let Some(problem) = T::problem(&self.applied) {
+        if let Some(problem) = T::problem(self.plates.applied()) {
             return Ok(Answer::Now(Reply::Refused(problem)));
         }
         match self.undone() {

@@ -132,6 +132,8 @@ fn sessions_leave_once(rt: HostRuntime) -> Result<(), Fail> {
         state.leave(1);
     }
     assert!(rt; !state.may_call(1));
+    assert!(rt; state.start(Actor::Session(1), Slot::of(98)) == Start::NotReady);
+    assert!(rt; state.start(Actor::Session(2), Slot::of(98)) == Start::At(0));
     assert!(rt; state.all_left(0) && state.all_left(1) && !state.all_left(3));
     Ok(())
 }

@@ -1,12 +1,10 @@
 -- A runner stays in order when it makes an entry.
-use Rattle.std.proofs.Common.{◌≡◌, ℕ, ◌-◌, inl, inr, Bool, true, false, List, [], ◌∷◌, ◌++◌, length, get_or, set, refl, ap, sym, subst, ◌∙◌, None, Some, arith, append_assoc, get_or-set_same, get_or-set_other}
+use Rattle.std.proofs.Common.{◌≡◌, ℕ, ◌-◌, inl, inr, true, false, List, [], ◌∷◌, ◌++◌, length, get_or, refl, ap, sym, subst, ◌∙◌, None, Some, arith, append_assoc}
 use Rattle.std.specs.List.{slice_get, cons_option}
 use Rattle.std.specs.declared.option.Option.{Option}
-use Rattle.std.proofs.lemmas.List.{append-nil, get_or_past, length-append}
+use Rattle.std.proofs.lemmas.List.{append-nil, length-append}
 use Rattle.std.proofs.lemmas.Option.{slice_get-get_or, slice_get_within, get_or_from_slice_get}
 use Rattle.std.proofs.Math.Seq.{get_or-append_seam}
-use Rattle.std.proofs.lemmas.Bool.{cases_lt}
-use Rattle.std.proofs.lemmas.Bool.Decides.{eqb_tells}
 use mathlib.Core.List.{IsPrefix}
 use Rattle.pl_ports.specs.declared.gate.Actor.{Actor}
 use Rattle.pl_ports.specs.declared.gate.Actor.TheVariants.{Session, Worker}
@@ -17,16 +15,15 @@ use Rattle.pl_machine.specs.declared.entry.What.{What}
 use Rattle.pl_machine.specs.declared.entry.What.TheVariants.{Call, Start, Finish, Late, Bye}
 use Rattle.pl_machine.specs.declared.entry.Entry.{Entry}
 use Rattle.pl_machine.specs.Machine.{Machine, IsActor, Allows, MayCall, blank, next, OfSession, pending_of, seat_of, has_left, without}
-use Rattle.pl_machine.specs.History.{replay, replay_from, IsLegal}
+use Rattle.pl_machine.specs.History.{replay, IsLegal}
 use Rattle.pl_machine.specs.Startable.{IsLeast}
 use Rattle.pl_machine.specs.Tickets.{closes, start_of}
 use Rattle.pl_machine.proofs.Sound.{get_or-set_default}
 use Rattle.pl_machine.proofs.Runs.{replay_from-append, replay_split, run_split}
 use Rattle.pl_machine.proofs.Standing.{command_pending}
+use Rattle.pl_machine.proofs.Coherence.{away_on, coherent_history, left_by}
 use Rattle.pl_session.specs.Complete.{command_of, IfStart}
 use Rattle.pl_session.proofs.Entries.{each_more}
-use Rattle.pl_session.proofs.Free.{command_keeps}
-use Rattle.pl_session.proofs.Settled.{settled_run}
 use Rattle.pl_order.specs.Order.{Work, IsInOrder, IsExportNext, entries_of, calls_in, bye_of, next_command}
 use Rattle.pl_order.proofs.Lists.{split_cases, split_one}
 use Rattle.pl_order.proofs.Own.{all_called, own_first, entries_append, calls_append, step_at}
@@ -58,29 +55,7 @@ module _ {A : Type 0} where
           let some = slice_get-get_or whole (length xs) y (grind (arith, long, whole_long)) in
           absurd (let f : None ≡ Some (get_or whole (length xs) y) = sym none ∙ some in cc)
 
--- a place that holds true still does after true is written somewhere
-still_true : (left : List Bool) (j k : ℕ) → get_or left k false ≡ true → get_or (set left j true) k false ≡ true
-still_true left j k is = elim (eqb_tells k j) [
-  | inl same ↦ elim (cases_lt j (length left)) [
-    | inl within ↦ ap (λ n. get_or (set left j true) n false) same.1 ∙ get_or-set_same left j true false within
-    | inr out ↦ absurd (let f : true ≡ false = sym is ∙ get_or_past left k false (omega (arith, same.1, out)) in cc)
-  ]
-  | inr other ↦ get_or-set_other left j k true false other.1 ∙ is
-]
-
 module _ {T P E R O J B : Type 0} (m : Meaning P E R O) where
-  -- who has left stays away
-  still_away : (st : Machine P) (a : Actor) (w : What T P E R O J B) (i : ℕ) → has_left st i ≡ true → has_left (next m st a w) i ≡ true
-  still_away st a (Call c reply) i is = ap (λ left. get_or left (i - 1) false) (command_keeps m st c).left ∙ is
-  still_away st a (Start slot epoch) i is = is
-  still_away st a (Finish slot epoch) i is = is
-  still_away st a (Late slot since now) i is = is
-  still_away st a Bye i is = still_true st.left _ (i - 1) is
-
-  away_on : (st : Machine P) (es : List (Entry T P E R O J B)) (i : ℕ) → has_left st i ≡ true → has_left (replay_from m st es) i ≡ true
-  away_on st [] i is = is
-  away_on st (e ∷ es) i is = away_on (next m st e.actor e.what) es i (still_away st e.actor e.what i is)
-
   -- the last step of a legal history
   last_step : (seen : List (Entry T P E R O J B)) (e : Entry T P E R O J B) → IsLegal m (seen ++ e ∷ []) → Allows m (replay m seen) e.actor e.what
   last_step seen e legal = step_at m (blank m) seen e [] legal
@@ -90,11 +65,10 @@ module _ {T P E R O J B : Type 0} (m : Meaning P E R O) where
   left_by_bye laws i seen before after legal is =
       let whole : IsLegal m (before ++ bye_of (Session i) ∷ after) = subst (IsLegal m) is legal in
       let may : MayCall (replay m before) i = step_at m (blank m) before (bye_of (Session i)) after whole in
-      let long = (settled_run m laws before (run_split m (blank m) before (bye_of (Session i) ∷ after) whole).0).left_long in
+      let kept = coherent_history m laws before (run_split m (blank m) before (bye_of (Session i) ∷ after) whole).0 in
       ap (λ h. has_left (replay m h) i) is
       ∙ ap (λ st. has_left st i) (replay_split m (blank m) before (bye_of (Session i) ∷ after))
-      ∙ away_on (without (replay m before) i) after i
-      (get_or-set_same (replay m before).left (i - 1) true false (let from = may.from_1 in let to = may.to_16 in omega (arith, long, from, to)))
+      ∙ away_on m (without (replay m before) i) after i (left_by m (replay m before) i kept may)
 
   -- after a bye nothing is pending
   idle_by_bye : (actor : Actor) (seen before after : List (Entry T P E R O J B)) → IsActor actor → IsLegal m seen → seen ≡ before ++ bye_of actor ∷ after → entries_of actor after ≡ []

@@ -13,7 +13,7 @@ use crate::keeping::{forget, given};
 use crate::raising::{bump_all, fallen};
 use crate::{Begun, Ticket};
 use pl_epochs::{EpochTable, ReaderSeat, WriterSeat};
-use pl_machine::{Actor, Answer, Closing, Command, Entry, Mode, Start, State, What};
+use pl_machine::{Actor, Answer, Closing, Command, Entry, Mode, State, What};
 use pl_tech::{Kept, Slot, Technology};
 use pl_units::{NoMemory, Shared};
 use std::alloc::Global;
@@ -137,7 +137,7 @@ impl<T: Technology> Plant<T> {
     }
 
     /// Starts the slot, where the machine has that start, and answers its ticket and its job; else, or for want of memory,
-    /// changes nothing. There is room for an entry.
+    /// changes nothing. An actor that has left has no start. There is room for an entry.
     pub fn start(&mut self, alloc: Global, actor: Actor, slot: Slot) -> Result<Begun<T>, NoMemory>
         requires { 1 ≤ self.old.spare }
         ensures starts { IfOk result (λ b. MatchBegun b (λ t _. Starts T.meaning self.old.state actor slot t.epoch) (¬ Starts T.meaning self.old.state actor slot (epoch_of self.old.state slot))) }
@@ -156,25 +156,21 @@ impl<T: Technology> Plant<T> {
             return Ok(Begun::NotReady);
         }
         let job = T::job(alloc, self.state.applied(), slot, &self.kept)?;
-        match self.state.start(actor, slot) {
-            Start::NotReady => unreachable!(),
-            Start::At(epoch) => {
-                let ticket = Ticket {
-                    actor,
-                    slot,
-                    epoch,
-                    job: Snapshot::of(&job),
-                };
-                add(
-                    &mut self.journal,
-                    Entry {
-                        actor,
-                        what: What::Start(slot, epoch),
-                    },
-                );
-                Ok(Begun::Go(ticket, job))
-            }
-        }
+        let epoch = self.state.begin(actor, slot);
+        let ticket = Ticket {
+            actor,
+            slot,
+            epoch,
+            job: Snapshot::of(&job),
+        };
+        add(
+            &mut self.journal,
+            Entry {
+                actor,
+                what: What::Start(slot, epoch),
+            },
+        );
+        Ok(Begun::Go(ticket, job))
     }
 
     /// Closes what was started: keeps what its job made, or drops it where the slot's epoch is above the ticket's. There is room
@@ -272,7 +268,7 @@ impl<T: Technology> Plant<T> {
         );
     }
 
-    /// The least slot that an actor with nothing pending may start. None exactly where there is none.
+    /// The least slot that an actor with nothing pending that has not left may start. None exactly where there is none.
     pub fn startable(&self) -> Option<Slot>
         ensures { MatchOption result (HasNone T.meaning self.now.state) (λ s. IsLeast T.meaning self.now.state s) }
     {

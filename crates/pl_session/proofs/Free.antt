@@ -145,7 +145,7 @@ module _ {P E R O : Type 0} (m : Meaning P E R O) where
       }
 
   pub may_start : (st : Machine P) (slot made : ℕ) → IsFree st made → CanStart m st slot → Starts m st (Session 1) slot (epoch_of st slot)
-  may_start st slot made free can = record { actor_is = (omega arith, omega arith); free = free.idle (Session 1); can = can; current = refl }
+  may_start st slot made free can = record { actor_is = (omega arith, omega arith); stays = free.stays; free = free.idle (Session 1); can = can; current = refl }
 
   -- an export that waits has a slot that may be started
   pub never_waits : IsLawful m → (st : Machine P) (made : ℕ) → IsFree st made → HasNone m st → (slot : ℕ) → IsNotYet m st slot → ⊥

@@ -2,5 +2,4 @@ pub mod Entries
 pub mod Free
 pub mod Alone
 pub mod Ways
-pub mod Settled
 pub mod Once

@@ -1,5 +1,5 @@
 -- Two complete histories of a session that is alone are one.
-use Rattle.std.proofs.Common.{◌≡◌, ℕ, ◌<◌, inl, inr, Bool, true, false, cond, List, [], ◌∷◌, ◌++◌, length, refl, ap, sym, subst, ◌∙◌, None, Some, arith, append_assoc, get_or-set_same}
+use Rattle.std.proofs.Common.{◌≡◌, ℕ, ◌<◌, inl, inr, Bool, true, false, cond, List, [], ◌∷◌, ◌++◌, length, refl, ap, sym, subst, ◌∙◌, None, Some, arith, append_assoc}
 use Rattle.std.specs.List.{slice_get, filter, filter_map, cons_option}
 use Rattle.std.specs.Option.{is_some}
 use Rattle.std.proofs.Math.Seq.{get_or-append_seam}
@@ -14,20 +14,23 @@ use Rattle.pl_machine.specs.declared.entry.Pending.{Pending}
 use Rattle.pl_machine.specs.declared.entry.Command.{Command}
 use Rattle.pl_machine.specs.declared.entry.Command.TheVariants.{Export}
 use Rattle.pl_machine.specs.declared.entry.Reply.{Reply}
+use Rattle.pl_machine.specs.declared.entry.Reply.TheVariants.{Gcode, Refused}
+use Rattle.pl_machine.specs.declared.entry.Mode.TheVariants.{Invalid, Done}
 use Rattle.pl_machine.specs.declared.entry.What.{What}
 use Rattle.pl_machine.specs.declared.entry.What.TheVariants.{Call, Start, Finish, Late, Bye}
 use Rattle.pl_machine.specs.declared.entry.Entry.{Entry}
-use Rattle.pl_machine.specs.Machine.{Machine, Allows, Replies, blank, next, pending_of, epoch_of, has_left, without}
+use Rattle.pl_machine.specs.Machine.{Machine, IsCoherent, CanStart, Allows, Replies, blank, next, mode_of, pending_of, epoch_of, has_left, without}
 use Rattle.pl_machine.specs.History.{replay, IsRunFrom}
 use Rattle.pl_machine.specs.Startable.{IsLeast}
 use Rattle.pl_machine.specs.Tickets.{closes}
 use Rattle.pl_machine.proofs.Runs.{run_split}
 use Rattle.pl_machine.proofs.Replies.{one_reply}
+use Rattle.pl_machine.proofs.Excluding.{whole as all_done}
+use Rattle.pl_machine.proofs.Coherence.{coherent_history, left_by, still_away}
 use Rattle.pl_session.specs.Complete.{is_session, command_of, is_bye, commands_by, byes_by, byes_due, IfStart, IsDue, TakesPart, IsComplete}
 use Rattle.pl_session.specs.Alone.{first_alone}
 use Rattle.pl_session.proofs.Entries.{commands_append, byes_append}
 use Rattle.pl_session.proofs.Alone.{by_first}
-use Rattle.pl_session.proofs.Settled.{IsSettled, settled_run, export_waits, still_away}
 
 -- two least slots are one
 same_least : {P E R O : Type 0} (m : Meaning P E R O) (st : Machine P) (s t : ℕ) → IsLeast m st s → IsLeast m st t → s ≡ t
@@ -108,7 +111,7 @@ module _ {T P E R O J B : Type 0} where
     no_more_calls : (st : Machine P) (es : List (Entry T P E R O J B)) → has_left st 1 ≡ true → IsRunFrom m st es → commands_by 1 es ≡ []
     no_more_calls st [] left run = refl
     no_more_calls st (e ∷ es) left run =
-        no_call_by st e.actor e.what left run.0 es ∙ no_more_calls (next m st e.actor e.what) es (still_away m st e.actor e.what left) run.1
+        no_call_by st e.actor e.what left run.0 es ∙ no_more_calls (next m st e.actor e.what) es (still_away m st e.actor e.what 1 left) run.1
 
     -- what is made where something is pending closes it
     closes_pending : (st : Machine P) (w : What T P E R O J B) → Allows m st (Session 1) w → closes w ≡ is_some (pending_of st (Session 1))
@@ -139,8 +142,7 @@ module _ {T P E R O J B : Type 0} where
       bye_last h es Bye whole is =
           let st = replay m h in
           let runs = run_split m (blank m) h (by_first Bye ∷ es) whole.legal in
-          let settled = settled_run m laws h runs.0 in
-          let gone : has_left (without st 1) 1 ≡ true = get_or-set_same st.left 0 true false (let long = settled.left_long in omega (arith, long)) in
+          let gone : has_left (without st 1) 1 ≡ true = left_by m st 1 (coherent_history m laws h runs.0) runs.1.0 in
           let rest : commands_by 1 es ≡ [] = no_more_calls (without st 1) es gone runs.1.1 in
           let calls = whole.calls 1 (omega arith) (omega arith) in
           let byes = whole.byes 1 (omega arith) (omega arith) in
@@ -158,13 +160,21 @@ module _ {T P E R O J B : Type 0} where
         left = bye_last h es w whole;
       }
 
+      -- an export has no reply where a slot may be started
+      export_waits : (st : Machine P) (slot : ℕ) (r : Reply T P E R O J B) → IsCoherent m st → CanStart m st slot → Replies m st Export r → ⊥
+      export_waits st slot (Refused p) kept can replies = let f : None ≡ Some p = sym can.no_problem ∙ replies in cc
+      export_waits st slot (Gcode o) kept can replies =
+          let done : mode_of st slot ≡ Done = all_done m laws st kept replies.1 slot can.ready.present in
+          let f : Invalid ≡ Done = sym can.invalid ∙ done in cc
+      export_waits st slot r kept can replies = replies
+
       -- a start comes before an export, which has no reply yet
-      not_both : (h : List (Entry T P E R O J B)) (c : Command E) (reply : Reply T P E R O J B) (slot epoch : ℕ) → IsSettled m (replay m h)
+      not_both : (h : List (Entry T P E R O J B)) (c : Command E) (reply : Reply T P E R O J B) (slot epoch : ℕ) → IsCoherent m (replay m h)
           → GoesOn h (Call c reply) → GoesOn h (Start slot epoch) → ⊥
-      not_both h c reply slot epoch settled a b =
+      not_both h c reply slot epoch kept a b =
           let f : Some c ≡ Some Export = sym (a.asked c refl) ∙ b.due in
           let g : c ≡ Export = cc in
-          export_waits m laws (replay m h) slot reply settled b.least.can (subst (λ d. Replies m (replay m h) d reply) g a.may.1)
+          export_waits (replay m h) slot reply kept b.least.can (subst (λ d. Replies m (replay m h) d reply) g a.may.1)
 
       -- what is finished is not late
       not_late : (h : List (Entry T P E R O J B)) (s e t since now : ℕ) → GoesOn h (Finish s e) → GoesOn h (Late t since now) → ⊥
@@ -177,32 +187,32 @@ module _ {T P E R O J B : Type 0} where
       both_close : (h : List (Entry T P E R O J B)) (w v : What T P E R O J B) → GoesOn h w → GoesOn h v → closes w ≡ closes v
       both_close h w v a b = closes_pending (replay m h) w a.may ∙ sym (closes_pending (replay m h) v b.may)
 
-      one_next : (h : List (Entry T P E R O J B)) (w v : What T P E R O J B) → IsSettled m (replay m h) → GoesOn h w → GoesOn h v → w ≡ v
-      one_next h (Call c r) (Call d s) settled a b =
+      one_next : (h : List (Entry T P E R O J B)) (w v : What T P E R O J B) → IsCoherent m (replay m h) → GoesOn h w → GoesOn h v → w ≡ v
+      one_next h (Call c r) (Call d s) kept a b =
           let f : Some c ≡ Some d = sym (a.asked c refl) ∙ b.asked d refl in
           let g : c ≡ d = cc in
-          ap (λ x. Call x r) g ∙ ap (Call d) (one_reply m (replay m h) d r s settled.modes_long (subst (λ x. Replies m (replay m h) x r) g a.may.1) b.may.1)
-      one_next h (Call c r) (Start slot epoch) settled a b = absurd (not_both h c r slot epoch settled a b)
-      one_next h (Call c r) Bye settled a b = absurd (none_next (commands_by 1 h) commands c (b.left refl).0 (a.asked c refl))
-      one_next h (Start slot epoch) (Call c r) settled a b = absurd (not_both h c r slot epoch settled b a)
-      one_next h (Start s e) (Start t f) settled a b =
+          ap (λ x. Call x r) g ∙ ap (Call d) (one_reply m (replay m h) d r s kept.modes_long (subst (λ x. Replies m (replay m h) x r) g a.may.1) b.may.1)
+      one_next h (Call c r) (Start slot epoch) kept a b = absurd (not_both h c r slot epoch kept a b)
+      one_next h (Call c r) Bye kept a b = absurd (none_next (commands_by 1 h) commands c (b.left refl).0 (a.asked c refl))
+      one_next h (Start slot epoch) (Call c r) kept a b = absurd (not_both h c r slot epoch kept b a)
+      one_next h (Start s e) (Start t f) kept a b =
           let same = same_least m (replay m h) s t a.least b.least in
           let epochs : e ≡ f = sym a.may.current ∙ ap (epoch_of (replay m h)) same ∙ b.may.current in
           ap (λ k. Start k e) same ∙ ap (Start t) epochs
-      one_next h (Start slot epoch) Bye settled a b = absurd (none_next (commands_by 1 h) commands Export (b.left refl).0 a.due)
-      one_next h Bye (Call c r) settled a b = absurd (none_next (commands_by 1 h) commands c (a.left refl).0 (b.asked c refl))
-      one_next h Bye (Start slot epoch) settled a b = absurd (none_next (commands_by 1 h) commands Export (a.left refl).0 b.due)
-      one_next h Bye Bye settled a b = refl
-      one_next h (Finish s e) (Finish t f) settled a b =
+      one_next h (Start slot epoch) Bye kept a b = absurd (none_next (commands_by 1 h) commands Export (b.left refl).0 a.due)
+      one_next h Bye (Call c r) kept a b = absurd (none_next (commands_by 1 h) commands c (a.left refl).0 (b.asked c refl))
+      one_next h Bye (Start slot epoch) kept a b = absurd (none_next (commands_by 1 h) commands Export (a.left refl).0 b.due)
+      one_next h Bye Bye kept a b = refl
+      one_next h (Finish s e) (Finish t f) kept a b =
           let pair = one_pair (replay m h) s t e f a.may.pending b.may.pending in
           ap (λ k. Finish k e) pair.0 ∙ ap (Finish t) pair.1
-      one_next h (Finish s e) (Late t since now) settled a b = absurd (not_late h s e t since now a b)
-      one_next h (Late t since now) (Finish s e) settled a b = absurd (not_late h s e t since now b a)
-      one_next h (Late s since now) (Late t then later) settled a b =
+      one_next h (Finish s e) (Late t since now) kept a b = absurd (not_late h s e t since now a b)
+      one_next h (Late t since now) (Finish s e) kept a b = absurd (not_late h s e t since now b a)
+      one_next h (Late s since now) (Late t then later) kept a b =
           let pair = one_pair (replay m h) s t since then a.may.pending b.may.pending in
           let epochs : now ≡ later = sym a.may.current ∙ ap (epoch_of (replay m h)) pair.0 ∙ b.may.current in
           ap (λ k. Late k since now) pair.0 ∙ ap (λ k. Late t k now) pair.1 ∙ ap (Late t then) epochs
-      one_next h w v settled a b = let same = both_close h w v a b in cc
+      one_next h w v kept a b = let same = both_close h w v a b in cc
 
       -- a complete history goes on no further
       no_more : (h : List (Entry T P E R O J B)) (w : What T P E R O J B) → Whole h → GoesOn h w → ⊥
@@ -219,8 +229,8 @@ module _ {T P E R O J B : Type 0} where
       entry_goes_on : (h es : List (Entry T P E R O J B)) (e : Entry T P E R O J B) → Whole (h ++ e ∷ es) → GoesOn h e.what
       entry_goes_on h es e whole = goes_on h es e.what (subst (λ x. Whole (h ++ x ∷ es)) (first_is h es e whole) whole)
 
-      settled_before : (h es : List (Entry T P E R O J B)) → Whole (h ++ es) → IsSettled m (replay m h)
-      settled_before h es whole = settled_run m laws h (run_split m (blank m) h es whole.legal).0
+      coherent_before : (h es : List (Entry T P E R O J B)) → Whole (h ++ es) → IsCoherent m (replay m h)
+      coherent_before h es whole = coherent_history m laws h (run_split m (blank m) h es whole.legal).0
 
       -- what follows the same entries is the same
       same_rest : (h one other : List (Entry T P E R O J B)) → Whole (h ++ one) → Whole (h ++ other) → one ≡ other
@@ -228,7 +238,7 @@ module _ {T P E R O J B : Type 0} where
       same_rest h [] (f ∷ fs) a b = absurd (no_more h f.what (subst Whole (append-nil h) a) (entry_goes_on h fs f b))
       same_rest h (e ∷ es) [] a b = absurd (no_more h e.what (subst Whole (append-nil h) b) (entry_goes_on h es e a))
       same_rest h (e ∷ es) (f ∷ fs) a b =
-          let what = one_next h e.what f.what (settled_before h (e ∷ es) a) (entry_goes_on h es e a) (entry_goes_on h fs f b) in
+          let what = one_next h e.what f.what (coherent_before h (e ∷ es) a) (entry_goes_on h es e a) (entry_goes_on h fs f b) in
           let same : e ≡ f = first_is h es e a ∙ ap by_first what ∙ sym (first_is h fs f b) in
           let rest : es ≡ fs = same_rest (h ++ e ∷ []) es fs
           (subst Whole (sym (append_assoc h (e ∷ []) es)) a)

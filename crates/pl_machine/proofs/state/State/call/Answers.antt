@@ -9,7 +9,7 @@ pub returns-clause-exact : goal.returns-clause-exact
 returns-clause-exact g c =
     let m = g.T.Technology.meaning in
     let sound : IsSound m c.args.self.now = subst (IsSound m) c.self.view_is c.self.invariant in
-    excludes_if_ok m g.met.T.Technology.laws c.args.self.now sound (arc_value c.args.command.now) c.make.result (search rules)
+    excludes_if_ok m g.met.T.Technology.laws c.args.self.now sound.kept (arc_value c.args.command.now) c.make.result (search rules)
 
 pub returns-clause-room : goal.returns-clause-room
 returns-clause-room g c =

@@ -1,4 +1,4 @@
-use Rattle.std.proofs.Common.{◌≡◌, ◌≤◌, ℕ, take, count_by}
+use Rattle.std.proofs.Common.{◌≡◌, ◌≤◌, take, count_by}
 use Rattle.pl_machine.specs.Machine.{is_started}
 use Rattle.pl_machine.proofs.state.State.count_started.Given as goal
 

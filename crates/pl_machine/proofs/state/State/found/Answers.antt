@@ -1,8 +1,8 @@
-use Rattle.std.proofs.Common.{◌≡◌, ℕ, ◌≤◌, ◌==◌, ◌||◌, arith, ◌&&◌, ap, sym, ◌∙◌, subst, true, false}
+use Rattle.std.proofs.Common.{ℕ, ◌==◌, ◌||◌, arith, ◌&&◌, ap, sym, ◌∙◌, subst}
 use Rattle.pl_tech.specs.Slots.{has}
 use Rattle.pl_machine.specs.Look.{looks}
-use Rattle.pl_machine.specs.Machine.{mode_of, IsSound}
-use Rattle.pl_machine.proofs.Looking.{IsFoundBelow, found_yes, found_no, found_all}
+use Rattle.pl_machine.specs.Machine.{mode_of, IsCoherent}
+use Rattle.pl_machine.proofs.Looking.{found_yes, found_no, found_all}
 use Rattle.pl_machine.proofs.state.State.found.Goals.{then-is_found, else-is_found}
 use Rattle.pl_machine.proofs.state.State.found.Goals as goal
 
@@ -17,5 +17,5 @@ loop-n-preserved g c =
 
 pub returns : goal.returns
 returns g c =
-    let sound : IsSound g.T.Technology.meaning c.args.self.now = subst (IsSound g.T.Technology.meaning) c.self.view_is c.self.invariant in
-    found_all g.T.Technology.meaning c.args.self.now c.args.set c.args.look c.loop-n.n c.loop-n.found sound (omega (arith, c.loop-n-test.false)) c.loop-n.invariant
+    let kept : IsCoherent g.T.Technology.meaning c.args.self.now = subst (IsCoherent g.T.Technology.meaning) c.self.view_is c.self.invariant.kept in
+    found_all g.T.Technology.meaning c.args.self.now c.args.set c.args.look c.loop-n.n c.loop-n.found kept (omega (arith, c.loop-n-test.false)) c.loop-n.invariant

@@ -1,19 +1,29 @@
 use Rattle.std.proofs.Common.{◌≡◌, ◌≤◌, ap, sym, ◌∙◌, subst, Some, refl}
-use Rattle.pl_machine.specs.Machine.{IsSound, pending_of, epoch_of}
-use Rattle.pl_machine.proofs.Sound.{sound-freed, sound-finished, may_finish}
+use Rattle.pl_machine.specs.Machine.{Machine, IsSound, Drops, pending_of, epoch_of, freed, finished}
+use Rattle.pl_machine.proofs.Sound.{coherent-freed, coherent-finished, may_finish, sound_still}
 use Rattle.pl_machine.proofs.state.State.publish.Goals as goal
 
 pub invariant_of-self : goal.invariant_of-self
-invariant_of-self g c = rw c.seat_of.ensures.value (sound-freed g.T.Technology.meaning _ c.args.actor c.requires.actor c.self.invariant)
+invariant_of-self g c =
+    let m = g.T.Technology.meaning in
+    let st : Machine g.row.T-Plate.Denot = record { edited = c.self.inside.plates.edited; applied = c.self.inside.plates.applied; modes = c.self.inside.modes; epochs = c.self.inside.epochs; calls = c.self.inside.calls; left = c.self.inside.left; pending = c.self.inside.pending } in
+    let p = c.in-Some.pending in
+    let drops : Drops st c.args.actor p.slot p.epoch (epoch_of st p.slot) = record {
+      actor_is = c.requires.actor;
+      pending = ap (λ s. pending_of s c.args.actor) c.self.view_is ∙ sym c.in-Some.ensures;
+      current = refl;
+      later = rw c.number-at.ensures.value at c.if-now-pending.true;
+    } in
+    rw c.seat_of.ensures.value (sound_still m st (freed st c.args.actor) refl refl c.self.invariant (coherent-freed m st c.args.actor p.slot p.epoch (epoch_of st p.slot) drops c.self.invariant.kept))
 
 pub invariant_of-self-in-Some : goal.invariant_of-self-in-Some
 invariant_of-self-in-Some g c =
+    let m = g.T.Technology.meaning in
+    let st : Machine g.row.T-Plate.Denot = record { edited = c.self.inside.plates.edited; applied = c.self.inside.plates.applied; modes = c.self.inside.modes; epochs = c.self.inside.epochs; calls = c.self.inside.calls; left = c.self.inside.left; pending = c.self.inside.pending } in
+    let p = c.in-Some.pending in
+    let may = may_finish m st c.args.actor p c.self.invariant c.requires.actor (ap (λ s. pending_of s c.args.actor) c.self.view_is ∙ sym c.in-Some.ensures) (rw c.number-at.ensures.value at c.if-now-pending.false) in
     rw (c.seat_of.ensures.value, c.number-at.ensures.value)
-    (sound-finished g.T.Technology.meaning _ c.args.actor c.in-Some.pending.slot c.requires.actor
-    (may_finish g.T.Technology.meaning _ c.args.actor c.in-Some.pending c.self.invariant c.requires.actor
-    (ap (λ s. pending_of s c.args.actor) c.self.view_is ∙ sym c.in-Some.ensures)
-    (rw c.number-at.ensures.value at c.if-now-pending.false)).0
-    c.self.invariant)
+    (sound_still m st (finished st c.args.actor p.slot) refl refl c.self.invariant (coherent-finished m st c.args.actor p.slot may.0 c.self.invariant.kept))
 
 pub returns-clause-published : goal.returns-clause-published
 returns-clause-published g c =

@@ -1,5 +1,5 @@
-use Rattle.std.proofs.Common.{ap, sym, ◌∙◌, ◌&&◌, subst}
-use Rattle.pl_machine.specs.Machine.{mode_of, is_started, IsSound}
+use Rattle.std.proofs.Common.{ap, ◌∙◌, ◌&&◌, subst}
+use Rattle.pl_machine.specs.Machine.{mode_of, IsCoherent}
 use Rattle.pl_machine.specs.Look.{looks}
 use Rattle.pl_machine.specs.declared.look.Look.TheVariants.{Started}
 use Rattle.pl_machine.proofs.Looking.{looks_started}
@@ -10,6 +10,6 @@ pub returns : goal.returns
 returns g c =
     let m = g.T.Technology.meaning in
     let st = c.args.self.now in
-    let sound : IsSound m st = subst (IsSound m) c.self.view_is c.self.invariant in
-    λ k. c.found.ensures k ∙ ap (λ b. b && looks Started (mode_of st k)) (c.present.ensures k ∙ ap (λ s. m.present s.applied k) c.self.view_is)
-    ∙ ap (λ b. m.present st.applied k && b) (looks_started (mode_of st k)) ∙ started_present m st k sound
+    let kept : IsCoherent m st = subst (IsCoherent m) c.self.view_is c.self.invariant.kept in
+    λ k. c.found.ensures k ∙ ap (λ b. b && looks Started (mode_of st k)) (c.present.ensures k ∙ (λ i. m.present (c.applied.ensures i) k) ∙ ap (λ s. m.present s.applied k) c.self.view_is)
+    ∙ ap (λ b. m.present st.applied k && b) (looks_started (mode_of st k)) ∙ started_present m st k kept

@@ -10,12 +10,12 @@ use Rattle.pl_plant.proofs.Rises.{counted_after}
 use Rattle.pl_plant.proofs.plant.Plant.call.Goals as goal
 
 pub call-requires-clause-given : goal.call-requires-clause-given
-call-requires-clause-given g c κs within =
+call-requires-clause-given g c =
     is_lent g.T.Technology.meaning c.self.inside.state c.self.inside.journal.items c.self.inside.kept (arc_value c.args.command) c.as_ref.result c.in_ok-output.output
     c.self.invariant c.as_ref.ensures.value (rw c.deref.ensures at c.in_ok-output.ensures.given)
 
-pub repeat-requires-after_bounds : goal.repeat-requires-after_bounds
-repeat-requires-after_bounds g c κs within =
+pub repeat-requires : goal.repeat-requires
+repeat-requires g c =
     is_handed_out g.T.Technology.meaning c.self.inside.state c.self.inside.journal.items c.self.inside.kept (arc_value c.args.command) c.in-Now.reply (option_map arc_value c.in_ok-output.output)
     c.self.invariant (rw c.deref.ensures at c.in_ok-output.ensures.given) (rw c.in-Now.is at c.in_ok-answer.ensures.step)
 

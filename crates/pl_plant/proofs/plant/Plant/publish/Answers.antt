@@ -6,12 +6,12 @@ use Rattle.pl_plant.proofs.Closing.{tells}
 use Rattle.pl_plant.proofs.plant.Plant.publish.Goals as goal
 
 pub publish-requires-clause-actor : goal.publish-requires-clause-actor
-publish-requires-clause-actor g c κs within =
+publish-requires-clause-actor g c =
     let t = g.T.Technology in
     (tells t.meaning g.met.T.Technology.laws t.job_value c.self.view_is _ c.args.ticket c.self.invariant c.requires.stands).actor_is
 
 pub publish-requires-clause-pending : goal.publish-requires-clause-pending
-publish-requires-clause-pending g c κs within =
+publish-requires-clause-pending g c =
     let t = g.T.Technology in
     let told = tells t.meaning g.met.T.Technology.laws t.job_value c.self.view_is _ c.args.ticket c.self.invariant c.requires.stands in
     λ none. (let f : None ≡ Some _ = sym none ∙ told.pending in cc)

@@ -5,12 +5,12 @@ use Rattle.pl_plant.proofs.Closing.{tells}
 use Rattle.pl_plant.proofs.plant.Plant.retire.Goals as goal
 
 pub retire-since-requires-clause-actor : goal.retire-since-requires-clause-actor
-retire-since-requires-clause-actor g c κs within =
+retire-since-requires-clause-actor g c =
     let t = g.T.Technology in
     (tells t.meaning g.met.T.Technology.laws t.job_value c.self.view_is _ c.args.ticket c.self.invariant c.requires.stands).actor_is
 
 pub retire-since-requires-clause-later : goal.retire-since-requires-clause-later
-retire-since-requires-clause-later g c κs within =
+retire-since-requires-clause-later g c =
     let t = g.T.Technology in
     let told = tells t.meaning g.met.T.Technology.laws t.job_value c.self.view_is _ c.args.ticket c.self.invariant c.requires.stands in
     let below = rw c.self.invariant.counted at (c.meet.ensures.below c.args.ticket.slot) in

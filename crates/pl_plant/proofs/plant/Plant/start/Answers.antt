@@ -12,14 +12,11 @@ job-requires-clause-needed g c =
 
 pub invariant_of-self : goal.invariant_of-self
 invariant_of-self g c =
-    rw (c.in-At.ensures.state, c.add.ensures)
-    (stands-started g.T.Technology.meaning c.self.inside.state c.self.inside.journal.items c.self.inside.kept _ c.args.actor c.args.slot c.in-At.epoch c.in-At.ensures.step c.self.invariant)
-
-pub unreachable-requires : goal.unreachable-requires
-unreachable-requires g c = c.in-NotReady.ensures.refused refl _ (c.if-not-is_ready.ensures.0 refl)
+    rw (c.begin-epoch.ensures.state, c.add.ensures, c.begin-epoch.ensures.epoch)
+    (stands-started g.T.Technology.meaning c.self.inside.state c.self.inside.journal.items c.self.inside.kept _ c.args.actor c.args.slot _ (c.if-not-is_ready.ensures.0 refl) c.self.invariant)
 
 pub returns-clause-stands : goal.returns-clause-stands
 returns-clause-stands g c =
     rw (c.add.ensures, c.of.ensures)
-    (stands_in-started g.T.Technology.meaning c.self.inside.state c.self.inside.journal.items c.self.inside.kept _ c.args.actor c.args.slot c.in-At.epoch _ c.self.invariant
+    (stands_in-started g.T.Technology.meaning c.self.inside.state c.self.inside.journal.items c.self.inside.kept _ c.args.actor c.args.slot c.begin-epoch.result _ c.self.invariant
     (c.in_ok-job.ensures.value ∙ ap (λ p. g.T.Technology.meaning.value p c.args.slot) c.applied.ensures))

@@ -6,12 +6,12 @@ use Rattle.pl_session.proofs.Ways.{way_kept, may_of, room_of, no_wait, way_calle
 use Rattle.pl_session.proofs.session.Session.call.Goals as goal
 
 pub call-requires-clause-may : goal.call-requires-clause-may
-call-requires-clause-may g c κs within =
+call-requires-clause-may g c =
     let m = g.T.Technology.meaning in
     may_of m _ c.args.self.now.made c.reserve.new.self _ (way_kept m _ _ _ _ _ c.in_ok-reserve.ensures.state c.in_ok-reserve.ensures.journal c.requires.way)
 
 pub call-requires-clause-calls : goal.call-requires-clause-calls
-call-requires-clause-calls g c κs within =
+call-requires-clause-calls g c =
     let m = g.T.Technology.meaning in
     let commands = c.args.self.now.commands in
     let most : length (map arc_value commands.items) ≤ 2 ^ 32 - 1 = (let same = length-map commands.items arc_value in omega (arith, same, commands.ok.0, c.requires.few)) in

@@ -11,7 +11,7 @@ returns-then-silent-clause-complete g c =
     ends_empty g.T.Technology.meaning _ c.args.self.now.made c.args.self.now.plant _ all c.if-silent.true c.requires.way
 
 pub leave-requires-clause-may : goal.leave-requires-clause-may
-leave-requires-clause-may g c κs within =
+leave-requires-clause-may g c =
     let m = g.T.Technology.meaning in
     may_of m _ c.args.self.now.made c.reserve.new.self _ (way_kept m _ _ _ _ _ c.in_ok-reserve.ensures.state c.in_ok-reserve.ensures.journal c.requires.way)
 

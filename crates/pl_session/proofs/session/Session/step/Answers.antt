@@ -6,7 +6,7 @@ use Rattle.pl_session.specs.Alone.{WaitsForNobody}
 use Rattle.pl_session.proofs.session.Session.step.Goals as goal
 
 pub call-requires-clause-own : goal.call-requires-clause-own
-call-requires-clause-own g c κs within =
+call-requires-clause-own g c =
     let commands = map arc_value c.args.self.now.commands.items in
     let made = c.args.self.now.made in
     let command = arc_value c.in_ok-command.command in
