@@ -94,7 +94,7 @@ module _ {T P E R O J B : Type 0} {g : Ghosts (Plant T P E R O J B) (Entry T P E
 
 -- a runner keeps what no step changes, where nothing changes
 pub keeps_self : {T P E R O J B : Type 0} {g : Ghosts (Plant T P E R O J B) (Entry T P E R O J B) TableName} (r : Runner T P E R O J B (Entry T P E R O J B) TableName g) → Keeps r r
-keeps_self r = record { actor = refl; commands = refl; number = refl; joined = refl; seen = ([], append-nil (seen_by r)) }
+keeps_self r = record { actor = refl; commands = refl; number = refl; joined = refl; splits = refl; seen = ([], append-nil (seen_by r)) }
 
 module _ {T P E R O J B : Type 0} {g : Ghosts (Plant T P E R O J B) (Entry T P E R O J B) TableName}
     (m : Meaning P E R O) (job_value : J → O) (runs : B → ℕ) (lock : TurnLock (Plant T P E R O J B) (Entry T P E R O J B) TableName) (table : TableName)

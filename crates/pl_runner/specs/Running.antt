@@ -18,9 +18,13 @@ use Rattle.pl_machine.specs.Tickets.{number_of}
 use Rattle.pl_plant.specs.declared.plant.Plant.{Plant}
 use Rattle.pl_session.specs.Complete.{runs_of}
 use Rattle.pl_order.specs.Order.{Work, IsInOrder, calls_in}
+use Rattle.pl_ports.specs.declared.gate.Actor.{Actor}
+use Rattle.pl_epochs.specs.declared.seats.ReaderSeat.{ReaderSeat}
+use Rattle.pl_turn.specs.declared.lock.Pass.{Pass}
 use Rattle.pl_runner.specs.declared.runner.Started.{Started}
 use Rattle.pl_runner.specs.declared.runner.Runner.{Runner}
 use Rattle.pl_runner.specs.Causes.{HasNext, HasNoneAsWorker}
+use Rattle.pl_runner.specs.Closing.{job_work}
 
 -- how many jobs these are, one or none
 abbrev pub jobs_in : {T P E R O J B : Type 0} → Option (Started T P E R O J B) → ℕ
@@ -28,6 +32,10 @@ jobs_in None = 0
 jobs_in (Some started) = 1
 
 module _ {T P E R O J B H : Type 0} {g : Ghosts (Plant T P E R O J B) (Entry T P E R O J B) H} where
+  -- who it is
+  abbrev pub actor_of : Runner T P E R O J B (Entry T P E R O J B) H g → Actor
+  actor_of r = r.actor
+
   -- what its pass knows
   abbrev pub known_by : Runner T P E R O J B (Entry T P E R O J B) H g → View (Entry T P E R O J B) H
   known_by r = unwrap_or (option_map (λ h. known h.pass) r.hands) spent_view
@@ -44,9 +52,25 @@ module _ {T P E R O J B H : Type 0} {g : Ghosts (Plant T P E R O J B) (Entry T P
   abbrev pub commands_of : Runner T P E R O J B (Entry T P E R O J B) H g → List (Command E)
   commands_of r = map arc_value r.commands.items
 
+  -- how many jobs were run at its bench
+  abbrev pub runs_at : (B → ℕ) → Runner T P E R O J B (Entry T P E R O J B) H g → ℕ
+  runs_at runs r = runs r.bench
+
+  -- how many of its jobs were stopped
+  abbrev pub stopped_of : Runner T P E R O J B (Entry T P E R O J B) H g → ℕ
+  stopped_of r = r.stopped
+
+  -- it has no job under way
+  abbrev pub IsIdle : Runner T P E R O J B (Entry T P E R O J B) H g → Type 0
+  IsIdle r = r.started ≡ None
+
+  -- it has a job under way
+  abbrev pub IsBusy : Runner T P E R O J B (Entry T P E R O J B) H g → Type 0
+  IsBusy r = MatchOption r.started ⊥ (λ _. Unit {0})
+
   -- the work that it has under way, whose value its job makes
   abbrev pub work_of : (J → O) → Runner T P E R O J B (Entry T P E R O J B) H g → Option (Work O)
-  work_of job_value r = option_map (λ s. record { slot = s.slot; epoch = s.epoch; value = job_value s.job }) r.started
+  work_of job_value r = option_map (λ s. job_work job_value s.slot s.epoch s.job) r.started
 
   -- its pass is one of this lock, and its reader reads at this table
   abbrev pub IsAt : TurnLock (Plant T P E R O J B) (Entry T P E R O J B) H → TableName → Runner T P E R O J B (Entry T P E R O J B) H g → Type 0
@@ -73,4 +97,14 @@ module _ {T P E R O J B H : Type 0} {g : Ghosts (Plant T P E R O J B) (Entry T P
     pub few_stopped : r.stopped ≤ runs r.bench
     -- a session has a command left where a job is under way
     pub due : IfSome r.started (λ _. HasNext r.actor r.made (commands_of r))
+    -- what it has seen has fewer than 2^64 entries where a job is under way, so its bench has room for one run more
     pub short : IfSome r.started (λ _. length (seen_by r) < 2 ^ 64)
+
+  -- the runner is in order wherever its pass is one of the lock, and its reader reads at the table
+  abbrev pub IsReadyWherever : Meaning P E R O → (J → O) → (B → ℕ) → Pass (Plant T P E R O J B) (Entry T P E R O J B) H g → ReaderSeat → Runner T P E R O J B (Entry T P E R O J B) H g → Type 0
+  IsReadyWherever m job_value runs pass reader r =
+      (lock : TurnLock (Plant T P E R O J B) (Entry T P E R O J B) H) (table : TableName) → IsOf lock pass → reads_at reader ≡ table → IsReady m job_value runs lock table r
+
+  -- the pass is one of each lock that the runner is at
+  abbrev pub IsOfItsLock : Pass (Plant T P E R O J B) (Entry T P E R O J B) H g → Runner T P E R O J B (Entry T P E R O J B) H g → Type 0
+  IsOfItsLock pass r = (lock : TurnLock (Plant T P E R O J B) (Entry T P E R O J B) H) (table : TableName) → IsAt lock table r → IsOf lock pass

@@ -10,12 +10,12 @@ use Rattle.pl_machine.specs.declared.entry.What.TheVariants.{Finish, Late}
 use Rattle.pl_machine.specs.History.{replay}
 use Rattle.pl_machine.specs.Tickets.{start_of}
 use Rattle.pl_plant.specs.declared.plant.Plant.{Plant}
-use Rattle.pl_order.specs.Order.{next_command}
+use Rattle.pl_order.specs.Order.{HasSaidBye, next_command}
 use Rattle.pl_runner.specs.declared.runner.Started.{Started}
 use Rattle.pl_runner.specs.declared.runner.Runner.{Runner}
 use Rattle.pl_runner.specs.declared.step.Step.{Step}
 use Rattle.pl_runner.specs.declared.step.Step.TheVariants.{Moved, Waits, Ended, NoMemory}
-use Rattle.pl_runner.specs.Causes.{HasCalled, HasEndedIn, RunnerWaits}
+use Rattle.pl_runner.specs.Causes.{HasCalled, HasEndedIn, MayGoOn, RunnerWaits}
 use Rattle.pl_runner.specs.Running.{known_by, seen_by, own_of, commands_of}
 
 -- a fact for each of the four
@@ -49,7 +49,12 @@ module _ {T P E R O J B H : Type 0} {g : Ghosts (Plant T P E R O J B) (Entry T P
     pub commands : commands_of new ≡ commands_of old
     pub number : (known_by new).number ≡ (known_by old).number
     pub joined : (known_by new).joined ≡ (known_by old).joined
+    pub splits : (known_by new).splits ≡ (known_by old).splits
     pub seen : IsPrefix (seen_by old) (seen_by new)
+
+  -- a session that may go on may still, but after a step that ended: then it has said bye
+  abbrev pub MayGoOnUnlessEnded : Step → Runner T P E R O J B (Entry T P E R O J B) H g → Type 0
+  MayGoOnUnlessEnded step r = MatchStep step (MayGoOn r.actor (seen_by r)) (MayGoOn r.actor (seen_by r)) (HasSaidBye r.actor (seen_by r)) (Unit {0})
 
   -- a step that moved: what was under way is closed; else the next call is made, or a slot is started
   abbrev pub HasMoved : Runner T P E R O J B (Entry T P E R O J B) H g → Runner T P E R O J B (Entry T P E R O J B) H g → Type 0

@@ -1,10 +1,10 @@
 //! What a runner whose job has ended does to the plant in one turn.
-ghost use Rattle.std.specs.Prelude.{◌≡◌, ◌<◌, false, true, [], ◌∷◌, ◌++◌};
+ghost use Rattle.std.specs.Prelude.{◌≡◌, ◌<◌, false, true};
 ghost use Rattle.std.specs.Arc.{arc_value};
 ghost use Rattle.pl_epochs.specs.Words.{has_read, numbers, reads_at, table_of};
 ghost use Rattle.pl_plant.specs.Planted.{Stands};
 ghost use Rattle.pl_plant.specs.Tickets.{TicketStands};
-ghost use Rattle.pl_runner.specs.Closing.{IfLate, MatchClosed, finish_of, late_of};
+ghost use Rattle.pl_runner.specs.Closing.{GrewByClosing, GrewByStopping, IfLate, MatchClosed};
 
 use crate::Closed;
 use crate::standing::{told, told_closed_down};
@@ -26,7 +26,7 @@ pub(crate) fn publish<T: Technology>(
     requires output { arc_value output ≡ T.job_value ticket.job.value }
     ensures stood { Stands T.meaning plant.old }
     ensures stands { Stands T.meaning plant.new }
-    ensures journal { MatchClosed result (plant.new.journal ≡ plant.old.journal ++ finish_of ticket ∷ []) (λ since now. plant.new.journal ≡ plant.old.journal ++ late_of ticket since now ∷ []) (plant.new.journal ≡ plant.old.journal) }
+    ensures journal { GrewByClosing result ticket plant.old.journal plant.new.journal }
     ensures late { IfLate result (λ since now. (since ≡ ticket.epoch) × (since < now)) }
     ensures home { plant.new.home ≡ plant.old.home }
     ensures open { MatchClosed result (plant.old.closed_down ≡ false) (λ _ _. plant.old.closed_down ≡ false) (Unit {0}) }
@@ -59,7 +59,7 @@ pub(crate) fn retire<T: Technology>(
     requires read { ticket.epoch < has_read reader.old ticket.slot }
     ensures stood { Stands T.meaning plant.old }
     ensures stands { Stands T.meaning plant.new }
-    ensures journal { MatchClosed result ⊥ (λ since now. plant.new.journal ≡ plant.old.journal ++ late_of ticket since now ∷ []) (plant.new.journal ≡ plant.old.journal) }
+    ensures journal { GrewByStopping result ticket plant.old.journal plant.new.journal }
     ensures late { IfLate result (λ since now. (since ≡ ticket.epoch) × (since < now)) }
     ensures home { plant.new.home ≡ plant.old.home }
     ensures open { MatchClosed result ⊥ (λ _ _. plant.old.closed_down ≡ false) (Unit {0}) }

@@ -1,14 +1,12 @@
 //! The turns of a runner whose job has ended, at the lock of the plant. What a turn tells holds for every schedule.
-ghost use Rattle.std.specs.Prelude.{◌≡◌, ◌<◌, None, Some, List, [], ◌∷◌, ◌++◌};
+ghost use Rattle.std.specs.Prelude.{◌≡◌, ◌<◌};
 ghost use Rattle.std.specs.Arc.{arc_value};
 ghost use mathlib.Core.List.{IsPrefix};
 ghost use Rattle.pl_epochs.specs.Words.{has_read, numbers, reads_at, table_of};
-ghost use Rattle.pl_machine.specs.declared.entry.Command.{Command};
 ghost use Rattle.pl_machine.specs.Tickets.{number_of};
 ghost use Rattle.pl_turn.specs.Passes.{AreOfOne, Fits, IsOf, joined, number, own, seen, splits};
 ghost use Rattle.pl_plant.specs.Tickets.{TicketStands};
-ghost use Rattle.pl_order.specs.Order.{IsInOrder};
-ghost use Rattle.pl_runner.specs.Closing.{IfLate, MatchClosed, epochs_of, finish_of, late_of, work_of};
+ghost use Rattle.pl_runner.specs.Closing.{ClosesInOrder, GrewByClosing, GrewByStopping, IfLate, epochs_of};
 
 use crate::Closed;
 use crate::closing::{publish, retire};
@@ -38,15 +36,19 @@ pub(crate) fn publish_turn<T: Technology, R: Wait>(
     ensures splits { splits result.1 ≡ splits pass }
     ensures seen { IsPrefix (seen pass) (seen result.1) }
     ensures fits { Fits result.1 (seen result.1) }
-    ensures own { MatchClosed result.0 (own result.1 ≡ own pass ++ finish_of ticket ∷ []) (λ since now. own result.1 ≡ own pass ++ late_of ticket since now ∷ []) (own result.1 ≡ own pass) }
+    ensures own { GrewByClosing result.0 ticket (own pass) (own result.1) }
     ensures late { IfLate result.0 (λ since now. (since ≡ ticket.epoch) × (since < now)) }
-    ensures order { (commands : List (Command T.Edit)) → IsInOrder T.meaning commands ticket.actor (seen pass) (Some (work_of T.job_value ticket)) → MatchClosed result.0 (IsInOrder T.meaning commands ticket.actor (seen result.1) None) (λ _ _. IsInOrder T.meaning commands ticket.actor (seen result.1) None) (IsInOrder T.meaning commands ticket.actor (seen result.1) (Some (work_of T.job_value ticket))) }
+    ensures order { ClosesInOrder T.meaning T.job_value ticket (seen pass) (seen result.1) result.0 }
 {
     let mut turn = lock.take(rt, pass);
     match publish(turn.value(), ticket, output) {
         Closed::Done => (Closed::Done, turn.end_with()),
         Closed::Late { since, now } => (Closed::Late { since, now }, turn.end_with()),
-        Closed::NoMemory => (Closed::NoMemory, turn.end()),
+        Closed::NoMemory => {
+            let pass = turn.end();
+            lock.tell_change();
+            (Closed::NoMemory, pass)
+        }
     }
 }
 
@@ -73,9 +75,9 @@ pub(crate) fn retire_turn<T: Technology, R: Wait>(
     ensures splits { splits result.1 ≡ splits pass }
     ensures seen { IsPrefix (seen pass) (seen result.1) }
     ensures fits { Fits result.1 (seen result.1) }
-    ensures own { MatchClosed result.0 ⊥ (λ since now. own result.1 ≡ own pass ++ late_of ticket since now ∷ []) (own result.1 ≡ own pass) }
+    ensures own { GrewByStopping result.0 ticket (own pass) (own result.1) }
     ensures late { IfLate result.0 (λ since now. (since ≡ ticket.epoch) × (since < now)) }
-    ensures order { (commands : List (Command T.Edit)) → IsInOrder T.meaning commands ticket.actor (seen pass) (Some (work_of T.job_value ticket)) → MatchClosed result.0 ⊥ (λ _ _. IsInOrder T.meaning commands ticket.actor (seen result.1) None) (IsInOrder T.meaning commands ticket.actor (seen result.1) (Some (work_of T.job_value ticket))) }
+    ensures order { ClosesInOrder T.meaning T.job_value ticket (seen pass) (seen result.1) result.0 }
     ensures reader { (reads_at result.2 ≡ reads_at reader) × (numbers result.2 ≡ numbers reader) }
 {
     let mut reader = reader;
@@ -83,11 +85,15 @@ pub(crate) fn retire_turn<T: Technology, R: Wait>(
     match retire(turn.value(), epochs, &mut reader, ticket) {
         Closed::Done => unreachable!(),
         Closed::Late { since, now } => (Closed::Late { since, now }, turn.end_with(), reader),
-        Closed::NoMemory => (Closed::NoMemory, turn.end(), reader),
+        Closed::NoMemory => {
+            let pass = turn.end();
+            lock.tell_change();
+            (Closed::NoMemory, pass, reader)
+        }
     }
 }
 
-/// A turn that closes the plant down. It waits for the turn.
+/// A turn that closes the plant down, and tells it to who sleeps. It waits for the turn.
 pub(crate) fn closing_down_turn<T: Technology, R: Wait>(
     rt: &R,
     lock: &TurnLock<Plant<T>>,
@@ -104,5 +110,7 @@ pub(crate) fn closing_down_turn<T: Technology, R: Wait>(
 {
     let mut turn = lock.take(rt, pass);
     turn.value().close_down();
-    turn.end()
+    let pass = turn.end();
+    lock.tell_change();
+    pass
 }

@@ -1,18 +1,16 @@
 //! A runner with a job under way: it runs the job, and closes what it has started.
-ghost use Rattle.std.specs.Prelude.{◌≡◌, ◌⊎◌, ℕ, ◌+◌, ◌-◌, ◌^◌, ◌<◌, if◌then◌else◌, ◌∷◌, ◌++◌, [], true, None, Some, List, IfOk, MatchOption};
+ghost use Rattle.std.specs.Prelude.{◌≡◌, ◌+◌, ◌-◌, ◌^◌, ◌<◌, if◌then◌else◌, true, IfOk};
 ghost use Rattle.std.specs.Thread.{IsSync};
 ghost use mathlib.Core.List.{IsPrefix};
 ghost use Rattle.pl_epochs.specs.Words.{has_read, reads_at, table_of};
 ghost use Rattle.pl_tech.specs.Ran.{MatchRan};
-ghost use Rattle.pl_machine.specs.declared.entry.Command.{Command};
 ghost use Rattle.pl_machine.specs.Tickets.{number_of};
 ghost use Rattle.pl_turn.specs.Passes.{AreOfOne, Fits, IsOf, joined, number, own, seen, splits};
 ghost use Rattle.pl_plant.specs.Tickets.{TicketStands};
-ghost use Rattle.pl_order.specs.Order.{IsInOrder};
 ghost use Rattle.pl_runner.specs.Causes.{MayGoOn};
-ghost use Rattle.pl_runner.specs.Running.{IsAt, IsReady, own_of, seen_by};
+ghost use Rattle.pl_runner.specs.Running.{IsAt, IsBusy, IsReady, actor_of, own_of, seen_by};
 ghost use Rattle.pl_runner.specs.Stepping.{CountsStopped, HasMoved, Keeps, MatchStep, UnlessMemory};
-ghost use Rattle.pl_runner.specs.Closing.{IfLate, IsNotDone, MatchClosed, epochs_of, finish_of, is_stopped, late_of, work_of};
+ghost use Rattle.pl_runner.specs.Closing.{ClosesInOrderIfClosed, GrewByClosing, IfLate, IsNotDone, epochs_of, is_stopped};
 
 use crate::runner::Hands;
 use crate::{Closed, Runner, Step, closing_down_turn, publish_turn, retire_turn, run_job};
@@ -62,9 +60,9 @@ pub(crate) fn close_job<T: Technology, R: Wait>(
     ensures splits { splits result.1 ≡ splits pass }
     ensures seen { IsPrefix (seen pass) (seen result.1) }
     ensures fits { Fits result.1 (seen result.1) }
-    ensures own { MatchClosed result.0 (own result.1 ≡ own pass ++ finish_of ticket ∷ []) (λ since now. own result.1 ≡ own pass ++ late_of ticket since now ∷ []) (own result.1 ≡ own pass) }
+    ensures own { GrewByClosing result.0 ticket (own pass) (own result.1) }
     ensures late { IfLate result.0 (λ since now. (since ≡ ticket.epoch) × (since < now)) }
-    ensures order { (commands : List (Command T.Edit)) → IsInOrder T.meaning commands ticket.actor (seen pass) (Some (work_of T.job_value ticket)) → MatchClosed result.0 (IsInOrder T.meaning commands ticket.actor (seen result.1) None) (λ _ _. IsInOrder T.meaning commands ticket.actor (seen result.1) None) (Unit {0}) }
+    ensures order { ClosesInOrderIfClosed T.meaning T.job_value ticket (seen pass) (seen result.1) result.0 }
     ensures stopped { is_stopped ran ≡ true → IsNotDone result.0 }
     ensures reader { reads_at result.2 ≡ reads_at reader }
 {
@@ -110,11 +108,11 @@ impl<T: Technology> Runner<T> {
         requires shared { IsSync R.row }
         requires home { epochs_of lock.now ≡ table_of epochs.now }
         requires ready { IsReady T.meaning T.job_value T.runs lock.now (table_of epochs.now) self.old }
-        requires busy { MatchOption self.old.started ⊥ (λ _. Unit {0}) }
+        requires busy { IsBusy self.old }
         ensures keeps { Keeps self.old self.new }
         ensures at { IsAt lock.now (table_of epochs.now) self.new }
         ensures ready { UnlessMemory result (IsReady T.meaning T.job_value T.runs lock.now (table_of epochs.now) self.new) }
-        ensures stays { MatchStep result (MayGoOn self.new.actor (seen_by self.new)) ⊥ ⊥ (Unit {0}) }
+        ensures stays { MatchStep result (MayGoOn (actor_of self.new) (seen_by self.new)) ⊥ ⊥ (Unit {0}) }
         ensures moved { MatchStep result (HasMoved self.old self.new) ⊥ ⊥ (Unit {0}) }
         ensures memory { MatchStep result (Unit {0}) ⊥ ⊥ (own_of self.new ≡ own_of self.old) }
         ensures stopped { CountsStopped result self.old self.new }

@@ -1,16 +1,16 @@
 //! The turn of a runner without work, whatever it is.
-ghost use Rattle.std.specs.Prelude.{◌≡◌, ◌≤◌, ◌<◌, ◌+◌, ◌-◌, ◌^◌, None, [], ◌∷◌, ◌++◌, All, length, map, slice_get};
+ghost use Rattle.std.specs.Prelude.{◌≡◌, ◌≤◌, ◌<◌, ◌-◌, ◌^◌, None, All, length, map, slice_get};
 ghost use Rattle.std.specs.Arc.{arc_value};
 ghost use mathlib.Core.List.{IsPrefix};
 ghost use Rattle.pl_epochs.specs.Words.{table_of};
 ghost use Rattle.pl_machine.specs.History.{replay};
 ghost use Rattle.pl_machine.specs.Calls.{NamesSession};
-ghost use Rattle.pl_machine.specs.Tickets.{number_of, start_of};
+ghost use Rattle.pl_machine.specs.Tickets.{number_of};
 ghost use Rattle.pl_turn.specs.Passes.{AreOfOne, Fits, IsOf, joined, number, own, seen, splits};
-ghost use Rattle.pl_order.specs.Order.{HasSaidBye, IsInOrder, calls_in};
+ghost use Rattle.pl_order.specs.Order.{IsInOrder, calls_in};
 ghost use Rattle.pl_runner.specs.Closing.{epochs_of};
-ghost use Rattle.pl_runner.specs.Looked.{IfBegun, IfEnded, IfWaits, MatchLooked, work_in};
-ghost use Rattle.pl_runner.specs.Causes.{HasCalled, HasEndedIn, HasNext, HasNoneAsWorker, MayGoOn, RunnerWaits};
+ghost use Rattle.pl_runner.specs.Looked.{CountsCall, GoesOnUnlessEnded, GrewWithoutWork, IfBegun, IfEnded, IfWaits, MatchLooked, work_in};
+ghost use Rattle.pl_runner.specs.Causes.{HasNext, HasNoneAsWorker, MayGoOn, RunnerWaits};
 
 use crate::{Looked, bye_turn, session_turn, worker_turn};
 use pl_epochs::EpochTable;
@@ -48,11 +48,11 @@ pub(crate) fn idle_turn<T: Technology, R: Wait>(
     ensures joined { joined result.1 ≡ joined pass }
     ensures splits { splits result.1 ≡ splits pass }
     ensures seen { IsPrefix (seen pass) (seen result.1) }
-    ensures own { MatchLooked result.0 (HasCalled actor (slice_get (map arc_value commands.now) made) (own pass) (own result.1)) (λ t _. own result.1 ≡ own pass ++ start_of actor t.slot t.epoch ∷ []) (HasEndedIn (replay T.meaning (seen result.1)) actor sessions (own pass) (own result.1)) (own result.1 ≡ own pass) (own result.1 ≡ own pass) }
-    ensures made { MatchLooked result.0 (length (calls_in (own result.1)) ≡ made + 1) (λ _ _. length (calls_in (own result.1)) ≡ made) (length (calls_in (own result.1)) ≡ made) (length (calls_in (own result.1)) ≡ made) (length (calls_in (own result.1)) ≡ made) }
+    ensures own { GrewWithoutWork (own pass) (own result.1) (replay T.meaning (seen result.1)) actor (slice_get (map arc_value commands.now) made) sessions result.0 }
+    ensures made { CountsCall made (length (calls_in (own result.1))) result.0 }
     ensures called { MatchLooked result.0 (made < length commands.now) (λ _ _. HasNext actor made (map arc_value commands.now)) (Unit {0}) (Unit {0}) (Unit {0}) }
     ensures order { IsInOrder T.meaning (map arc_value commands.now) actor (seen result.1) (work_in T.job_value result.0) }
-    ensures stays { MatchLooked result.0 (MayGoOn actor (seen result.1)) (λ _ _. MayGoOn actor (seen result.1)) (HasSaidBye actor (seen result.1)) (MayGoOn actor (seen result.1)) (Unit {0}) }
+    ensures stays { GoesOnUnlessEnded actor (seen result.1) result.0 }
     ensures last { IfEnded result.0 (slice_get (map arc_value commands.now) made ≡ None) }
     ensures short { IfBegun result.0 (λ _ _. length (seen result.1) < 2 ^ 64) }
     ensures waits { IfWaits result.0 (RunnerWaits T.meaning (replay T.meaning (seen result.1)) actor (slice_get (map arc_value commands.now) made) sessions) }

@@ -1,13 +1,11 @@
 //! A step of a runner without work: one turn.
-ghost use Rattle.std.specs.Prelude.{◌≡◌, ◌+◌, ◌-◌, ◌^◌, ◌<◌, ◌≤◌, None, Some, vec_len};
+ghost use Rattle.std.specs.Prelude.{◌≡◌, ◌-◌, ◌^◌, ◌<◌, ◌≤◌, vec_len};
 ghost use Rattle.pl_epochs.specs.Words.{table_of};
-ghost use Rattle.pl_order.specs.Order.{HasSaidBye};
-ghost use Rattle.pl_runner.specs.declared.step.Step.{Step};
-ghost use Rattle.pl_runner.specs.Looked.{IfCalled, MatchLooked};
+ghost use Rattle.pl_runner.specs.Looked.{CountsCall, IfCalled, IsStepOf, TakesUp};
 ghost use Rattle.pl_runner.specs.Closing.{epochs_of};
 ghost use Rattle.pl_runner.specs.Causes.{MayGoOn};
-ghost use Rattle.pl_runner.specs.Running.{IsAt, IsReady, known_by, own_of, seen_by};
-ghost use Rattle.pl_runner.specs.Stepping.{HasCome, HasMoved, HasWaited, Keeps, MatchStep, UnlessMemory};
+ghost use Rattle.pl_runner.specs.Running.{IsAt, IsIdle, IsReady, actor_of, own_of, seen_by, stopped_of};
+ghost use Rattle.pl_runner.specs.Stepping.{HasCome, HasMoved, HasWaited, Keeps, MatchStep, MayGoOnUnlessEnded, UnlessMemory};
 
 use crate::idle::idle_turn;
 use crate::runner::{Hands, Started};
@@ -25,9 +23,9 @@ impl<T: Technology> Runner<T> {
     fn take_up<G: Gate>(&mut self, looked: Looked<T>, gate: &G) -> Step
         requires few { vec_len self.old.commands ≤ 2 ^ 32 - 1 }
         requires called { IfCalled looked (self.old.made < vec_len self.old.commands) }
-        ensures step { MatchLooked looked (result ≡ Step.Moved) (λ _ _. result ≡ Step.Moved) (result ≡ Step.Ended) (result ≡ Step.Waits) (result ≡ Step.NoMemory) }
-        ensures made { MatchLooked looked (self.new.made ≡ self.old.made + 1) (λ _ _. self.new.made ≡ self.old.made) (self.new.made ≡ self.old.made) (self.new.made ≡ self.old.made) (self.new.made ≡ self.old.made) }
-        ensures started { MatchLooked looked (self.new.started ≡ self.old.started) (λ t job. self.new.started ≡ Some (record { slot = t.slot; epoch = t.epoch; job = job })) (self.new.started ≡ self.old.started) (self.new.started ≡ self.old.started) (self.new.started ≡ self.old.started) }
+        ensures step { IsStepOf looked result }
+        ensures made { CountsCall self.old.made self.new.made looked }
+        ensures started { TakesUp self.old.started self.new.started looked }
         ensures actor { self.new.actor ≡ self.old.actor }
         ensures hands { self.new.hands ≡ self.old.hands }
         ensures bench { self.new.bench ≡ self.old.bench }
@@ -66,18 +64,18 @@ impl<T: Technology> Runner<T> {
     ) -> Step
         requires home { epochs_of lock.now ≡ table_of epochs.now }
         requires ready { IsReady T.meaning T.job_value T.runs lock.now (table_of epochs.now) self.old }
-        requires free { self.old.started ≡ None }
-        requires stays { MayGoOn self.old.actor (seen_by self.old) }
+        requires free { IsIdle self.old }
+        requires stays { MayGoOn (actor_of self.old) (seen_by self.old) }
         ensures keeps { Keeps self.old self.new }
         ensures at { IsAt lock.now (table_of epochs.now) self.new }
         ensures ready { UnlessMemory result (IsReady T.meaning T.job_value T.runs lock.now (table_of epochs.now) self.new) }
-        ensures stays { MatchStep result (MayGoOn self.new.actor (seen_by self.new)) (MayGoOn self.new.actor (seen_by self.new)) (HasSaidBye self.new.actor (seen_by self.new)) (Unit {0}) }
-        ensures idle { MatchStep result (Unit {0}) (self.new.started ≡ None) (self.new.started ≡ None) (Unit {0}) }
+        ensures stays { MayGoOnUnlessEnded result self.new }
+        ensures idle { MatchStep result (Unit {0}) (IsIdle self.new) (IsIdle self.new) (Unit {0}) }
         ensures moved { MatchStep result (HasMoved self.old self.new) (Unit {0}) (Unit {0}) (Unit {0}) }
         ensures waits { MatchStep result (Unit {0}) (HasWaited T.meaning sessions self.old self.new) (Unit {0}) (Unit {0}) }
         ensures ended { MatchStep result (Unit {0}) (Unit {0}) (HasCome T.meaning sessions self.old self.new) (Unit {0}) }
         ensures memory { MatchStep result (Unit {0}) (Unit {0}) (Unit {0}) (own_of self.new ≡ own_of self.old) }
-        ensures stopped { self.new.stopped ≡ self.old.stopped }
+        ensures stopped { stopped_of self.new ≡ stopped_of self.old }
     {
         let Some(Hands { pass, reader }) = self.hands.take() else {
             unreachable!()

@@ -1,16 +1,14 @@
 //! What a runner without work does to the plant in one turn.
-ghost use Rattle.std.specs.Prelude.{◌≡◌, ◌<◌, ◌-◌, ◌^◌, false, true, [], ◌∷◌, ◌++◌, None, IfOk, OnErr, length};
+ghost use Rattle.std.specs.Prelude.{◌≡◌, ◌<◌, ◌-◌, ◌^◌, false, true, None, IfOk, OnErr, length};
 ghost use Rattle.std.specs.Arc.{arc_value};
 ghost use Rattle.pl_epochs.specs.Words.{table_of};
-ghost use Rattle.pl_machine.specs.Machine.{IsActor, MayCall, calls_of, pending_of};
+ghost use Rattle.pl_machine.specs.Machine.{is_gone, IsActor, MayCall, calls_of, pending_of};
 ghost use Rattle.pl_machine.specs.Startable.{AllLeft, HasNone, IsLeast};
 ghost use Rattle.pl_machine.specs.Calls.{NamesSession};
-ghost use Rattle.pl_machine.specs.Tickets.{start_of};
-ghost use Rattle.pl_order.specs.Order.{bye_of};
 ghost use Rattle.pl_plant.specs.Planted.{Stands};
 ghost use Rattle.pl_plant.specs.Tickets.{TicketStands};
-ghost use Rattle.pl_runner.specs.Looked.{IfBegun, IfEnded, IfWaits, MatchLooked, MatchMemory};
-ghost use Rattle.pl_runner.specs.Causes.{GrewByCall, LacksResults, SessionWaits, WorkerWaits};
+ghost use Rattle.pl_runner.specs.Looked.{GrewAsWorker, GrewByAsking, GrewByBye, GrewInTurn, IfBegun, IfEnded, IfWaits, MatchMemory};
+ghost use Rattle.pl_runner.specs.Causes.{LacksResults, SessionWaits, WorkerWaits};
 
 use crate::Looked;
 use crate::standing::{told, told_closed_down};
@@ -29,8 +27,9 @@ fn begin<T: Technology>(
     actor: Actor,
 ) -> Result<Looked<T>, NoMemory>
     requires actor { IsActor actor }
+    requires stays { is_gone plant.old.state actor ≡ false }
     requires free { pending_of plant.old.state actor ≡ None }
-    ensures journal { IfOk result (λ l. MatchLooked l ⊥ (λ t _. plant.new.journal ≡ plant.old.journal ++ start_of actor t.slot t.epoch ∷ []) ⊥ (plant.new.journal ≡ plant.old.journal) ⊥) }
+    ensures journal { IfOk result (GrewInTurn plant.old.journal plant.new.journal actor ⊥ ⊥ ⊥) }
     ensures ticket { IfOk result (λ l. IfBegun l (λ t job. (t.actor ≡ actor) × (t.job.value ≡ job))) }
     ensures stands { IfOk result (λ l. IfBegun l (λ t _. TicketStands T.meaning T.job_value plant.new.journal t)) }
     ensures least { IfOk result (λ l. IfBegun l (λ t _. IsLeast T.meaning plant.old.state t.slot)) }
@@ -62,7 +61,7 @@ fn call_or_begin<T: Technology>(
     requires may { MayCall plant.old.state session }
     requires calls { calls_of plant.old.state session < 2 ^ 32 - 1 }
     requires names { NamesSession (arc_value command.now) }
-    ensures journal { IfOk result (λ l. MatchLooked l (GrewByCall session (arc_value command.now) plant.old.journal plant.new.journal) (λ t _. plant.new.journal ≡ plant.old.journal ++ start_of (Actor.Session session) t.slot t.epoch ∷ []) ⊥ (plant.new.journal ≡ plant.old.journal) ⊥) }
+    ensures journal { IfOk result (GrewByAsking plant.old.journal plant.new.journal session (arc_value command.now) ⊥) }
     ensures ticket { IfOk result (λ l. IfBegun l (λ t job. (t.actor ≡ Actor.Session session) × (t.job.value ≡ job))) }
     ensures stands { IfOk result (λ l. IfBegun l (λ t _. TicketStands T.meaning T.job_value plant.new.journal t)) }
     ensures least { IfOk result (λ l. IfBegun l (λ t _. IsLeast T.meaning plant.old.state t.slot)) }
@@ -95,7 +94,7 @@ pub(crate) fn look_for_work<T: Technology>(
     requires free { Stands T.meaning plant.old → pending_of plant.old.state (Actor.Worker worker) ≡ None }
     ensures stood { Stands T.meaning plant.old }
     ensures stands { Stands T.meaning plant.new }
-    ensures journal { MatchLooked result ⊥ (λ t _. plant.new.journal ≡ plant.old.journal ++ start_of (Actor.Worker worker) t.slot t.epoch ∷ []) (plant.new.journal ≡ plant.old.journal) (plant.new.journal ≡ plant.old.journal) (plant.new.journal ≡ plant.old.journal) }
+    ensures journal { GrewAsWorker plant.old.journal plant.new.journal worker result }
     ensures ticket { IfBegun result (λ t job. (t.actor ≡ Actor.Worker worker) × (t.job.value ≡ job)) }
     ensures ticket_stands { IfBegun result (λ t _. TicketStands T.meaning T.job_value plant.new.journal t) }
     ensures least { IfBegun result (λ t _. IsLeast T.meaning plant.old.state t.slot) }
@@ -137,7 +136,7 @@ pub(crate) fn ask<T: Technology>(
     requires names { NamesSession (arc_value command.now) }
     ensures stood { Stands T.meaning plant.old }
     ensures stands { Stands T.meaning plant.new }
-    ensures journal { MatchLooked result (GrewByCall session (arc_value command.now) plant.old.journal plant.new.journal) (λ t _. plant.new.journal ≡ plant.old.journal ++ start_of (Actor.Session session) t.slot t.epoch ∷ []) ⊥ (plant.new.journal ≡ plant.old.journal) (plant.new.journal ≡ plant.old.journal) }
+    ensures journal { GrewByAsking plant.old.journal plant.new.journal session (arc_value command.now) (plant.new.journal ≡ plant.old.journal) result }
     ensures ticket { IfBegun result (λ t job. (t.actor ≡ Actor.Session session) × (t.job.value ≡ job)) }
     ensures ticket_stands { IfBegun result (λ t _. TicketStands T.meaning T.job_value plant.new.journal t) }
     ensures least { IfBegun result (λ t _. IsLeast T.meaning plant.old.state t.slot) }
@@ -164,7 +163,7 @@ pub(crate) fn say_bye<T: Technology>(plant: &mut Plant<T>, session: u8) -> Looke
     requires may { Stands T.meaning plant.old → MayCall plant.old.state session }
     ensures stood { Stands T.meaning plant.old }
     ensures stands { Stands T.meaning plant.new }
-    ensures journal { MatchLooked result ⊥ (λ _ _. ⊥) (plant.new.journal ≡ plant.old.journal ++ bye_of (Actor.Session session) ∷ []) ⊥ (plant.new.journal ≡ plant.old.journal) }
+    ensures journal { GrewByBye plant.old.journal plant.new.journal session result }
     ensures home { plant.new.home ≡ plant.old.home }
     ensures open { MatchMemory result (Unit {0}) (plant.old.closed_down ≡ false) }
     ensures closed_down { MatchMemory result (plant.new.closed_down ≡ true) (plant.new.closed_down ≡ false) }

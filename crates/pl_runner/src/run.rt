@@ -1,12 +1,12 @@
 //! The whole run of a runner.
-ghost use Rattle.std.specs.Prelude.{◌≡◌, None, OnOk};
+ghost use Rattle.std.specs.Prelude.{◌≡◌, OnOk};
 ghost use Rattle.std.specs.Thread.{IsSync};
 ghost use Rattle.pl_epochs.specs.Words.{table_of};
 ghost use Rattle.pl_machine.specs.History.{replay};
 ghost use Rattle.pl_order.specs.Order.{HasSaidBye};
 ghost use Rattle.pl_runner.specs.Closing.{epochs_of};
 ghost use Rattle.pl_runner.specs.Causes.{IsSession, IsWorker, MayGoOn, SeesAllLeft};
-ghost use Rattle.pl_runner.specs.Running.{IsAt, IsReady, seen_by};
+ghost use Rattle.pl_runner.specs.Running.{IsAt, IsIdle, IsReady, actor_of, seen_by};
 ghost use Rattle.pl_runner.specs.Stepping.{Keeps};
 
 use crate::{Runner, Step};
@@ -21,7 +21,8 @@ use std::sync::Wait;
 use std::thread::Threads;
 
 impl<T: Technology> Runner<T> {
-    // Steps until it has ended, or memory is wanting.
+    // Steps until it has ended, or memory is wanting. Where there is nothing to do it sleeps until a change is told: how many were
+    // told is read before the step, so a change after its turn is not missed.
     fn run<R: Threads + Wait + Sync, G: Gate>(
         &mut self,
         rt: &R,
@@ -34,18 +35,19 @@ impl<T: Technology> Runner<T> {
         requires shared { IsSync R.row }
         requires home { epochs_of lock.now ≡ table_of epochs.now }
         requires ready { IsReady T.meaning T.job_value T.runs lock.now (table_of epochs.now) self.old }
-        requires stays { MayGoOn self.old.actor (seen_by self.old) }
+        requires stays { MayGoOn (actor_of self.old) (seen_by self.old) }
         ensures keeps { Keeps self.old self.new }
         ensures at { IsAt lock.now (table_of epochs.now) self.new }
         ensures ready { OnOk result (IsReady T.meaning T.job_value T.runs lock.now (table_of epochs.now) self.new) }
-        ensures idle { OnOk result (self.new.started ≡ None) }
-        ensures said { OnOk result (HasSaidBye self.new.actor (seen_by self.new)) }
-        ensures left { OnOk result (SeesAllLeft (replay T.meaning (seen_by self.new)) self.new.actor sessions) }
+        ensures idle { OnOk result (IsIdle self.new) }
+        ensures said { OnOk result (HasSaidBye (actor_of self.new) (seen_by self.new)) }
+        ensures left { OnOk result (SeesAllLeft (replay T.meaning (seen_by self.new)) (actor_of self.new) sessions) }
     {
         for _ in rt.forever() {
+            let changes = lock.changes();
             match self.step(rt, alloc, lock, epochs, sessions, gate) {
                 Step::Moved => (),
-                Step::Waits => (),
+                Step::Waits => lock.wait_for_change(rt, changes),
                 Step::Ended => return Ok(()),
                 Step::NoMemory => return Err(NoMemory),
             }
@@ -66,16 +68,16 @@ pub fn session<T: Technology, R: Threads + Wait + Sync, G: Gate>(
     sessions: u32,
     gate: &G,
 ) -> Result<(), NoMemory>
-    requires session { IsSession runner.old.actor }
+    requires session { IsSession (actor_of runner.old) }
     requires shared { IsSync R.row }
     requires home { epochs_of lock.now ≡ table_of epochs.now }
     requires ready { IsReady T.meaning T.job_value T.runs lock.now (table_of epochs.now) runner.old }
-    requires stays { MayGoOn runner.old.actor (seen_by runner.old) }
+    requires stays { MayGoOn (actor_of runner.old) (seen_by runner.old) }
     ensures keeps { Keeps runner.old runner.new }
     ensures at { IsAt lock.now (table_of epochs.now) runner.new }
     ensures ready { OnOk result (IsReady T.meaning T.job_value T.runs lock.now (table_of epochs.now) runner.new) }
-    ensures idle { OnOk result (runner.new.started ≡ None) }
-    ensures said { OnOk result (HasSaidBye runner.new.actor (seen_by runner.new)) }
+    ensures idle { OnOk result (IsIdle runner.new) }
+    ensures said { OnOk result (HasSaidBye (actor_of runner.new) (seen_by runner.new)) }
 {
     runner.run(rt, alloc, lock, epochs, sessions, gate)
 }
@@ -92,16 +94,16 @@ pub fn worker<T: Technology, R: Threads + Wait + Sync, G: Gate>(
     sessions: u32,
     gate: &G,
 ) -> Result<(), NoMemory>
-    requires worker { IsWorker runner.old.actor }
+    requires worker { IsWorker (actor_of runner.old) }
     requires shared { IsSync R.row }
     requires home { epochs_of lock.now ≡ table_of epochs.now }
     requires ready { IsReady T.meaning T.job_value T.runs lock.now (table_of epochs.now) runner.old }
-    requires stays { MayGoOn runner.old.actor (seen_by runner.old) }
+    requires stays { MayGoOn (actor_of runner.old) (seen_by runner.old) }
     ensures keeps { Keeps runner.old runner.new }
     ensures at { IsAt lock.now (table_of epochs.now) runner.new }
     ensures ready { OnOk result (IsReady T.meaning T.job_value T.runs lock.now (table_of epochs.now) runner.new) }
-    ensures idle { OnOk result (runner.new.started ≡ None) }
-    ensures left { OnOk result (SeesAllLeft (replay T.meaning (seen_by runner.new)) runner.new.actor sessions) }
+    ensures idle { OnOk result (IsIdle runner.new) }
+    ensures left { OnOk result (SeesAllLeft (replay T.meaning (seen_by runner.new)) (actor_of runner.new) sessions) }
 {
     runner.run(rt, alloc, lock, epochs, sessions, gate)
 }

@@ -1,14 +1,9 @@
 //! A session or a worker on its way.
 ghost use Rattle.std.specs.Prelude.{◌≡◌, ◌≤◌, ◌+◌, ◌-◌, ◌^◌, [], map, vec_len, All};
 ghost use Rattle.std.specs.Arc.{arc_value};
-ghost use Rattle.pl_turn.specs.declared.lock.TurnLock.{TurnLock};
-ghost use Rattle.pl_turn.specs.Passes.{IsOf, joined, known, number, own, seen};
-ghost use Rattle.pl_epochs.specs.declared.seats.TableName.{TableName};
-ghost use Rattle.pl_epochs.specs.Words.{reads_at};
-ghost use Rattle.pl_machine.specs.declared.entry.Entry.{Entry};
+ghost use Rattle.pl_turn.specs.Passes.{joined, known, number, own, seen, splits};
 ghost use Rattle.pl_machine.specs.Calls.{NamesSession};
 ghost use Rattle.pl_machine.specs.History.{IsLegal};
-ghost use Rattle.pl_plant.specs.declared.plant.Plant.{Plant};
 
 use pl_epochs::ReaderSeat;
 use pl_machine::{Actor, Command};
@@ -53,12 +48,12 @@ where
 }
 
 impl<T: Technology> Runner<T> {
-    ghost use Rattle.pl_runner.specs.Running.{HasHands, IsAt, IsReady, known_by, seen_by};
+    ghost use Rattle.pl_runner.specs.Running.{HasHands, IsOfItsLock, IsReadyWherever, actor_of, commands_of, known_by, runs_at, seen_by, stopped_of};
     ghost use Rattle.pl_runner.specs.Causes.{MayGoOn};
 
     /// The runner of a session, from 1 to 16. Its pass has the session's number, no own entries and no joined passes, and has seen
     /// a legal history; the bench has run nothing; there are at most 2^32 - 1 commands, and each wait among them is for a session
-    /// from 1 to 16. It is in order wherever its pass is one of the lock and its reader one of the table.
+    /// from 1 to 16. It has these commands, and is in order wherever its pass is one of the lock and its reader one of the table.
     pub fn session(
         id: u8,
         commands: Vec<Arc<Command<T::Edit>>>,
@@ -74,10 +69,12 @@ impl<T: Technology> Runner<T> {
         requires bench { T.runs bench ≡ 0 }
         requires few { vec_len commands ≤ 2 ^ 32 - 1 }
         requires named { All NamesSession (map arc_value commands.items) }
-        ensures ready { (lock : TurnLock (Plant T T.Plate T.Edit T.Reply T.Output T.Job T.Bench) (Entry T T.Plate T.Edit T.Reply T.Output T.Job T.Bench) TableName) (table : TableName) → IsOf lock pass → reads_at reader ≡ table → IsReady T.meaning T.job_value T.runs lock table result }
-        ensures actor { result.actor ≡ Actor.Session id }
+        ensures ready { IsReadyWherever T.meaning T.job_value T.runs pass reader result }
+        ensures actor { actor_of result ≡ Actor.Session id }
+        ensures commands { commands_of result ≡ map arc_value commands.items }
         ensures seen { seen_by result ≡ seen pass }
-        ensures stays { MayGoOn result.actor (seen_by result) }
+        ensures splits { (known_by result).splits ≡ splits pass }
+        ensures stays { MayGoOn (actor_of result) (seen_by result) }
     {
         Runner {
             actor: Actor::Session(id),
@@ -91,8 +88,8 @@ impl<T: Technology> Runner<T> {
     }
 
     /// The runner of a worker, from 1 to 8. Its pass has the number 16 more than the worker's, no own entries and no joined passes,
-    /// and has seen a legal history; the bench has run nothing. It is in order wherever its pass is one of the lock and its reader one
-    /// of the table.
+    /// and has seen a legal history; the bench has run nothing. It has no commands, and is in order wherever its pass is one of the
+    /// lock and its reader one of the table.
     pub fn worker(
         alloc: Global,
         id: u8,
@@ -106,10 +103,11 @@ impl<T: Technology> Runner<T> {
         requires joined { joined pass ≡ [] }
         requires seen { IsLegal T.meaning (seen pass) }
         requires bench { T.runs bench ≡ 0 }
-        ensures ready { (lock : TurnLock (Plant T T.Plate T.Edit T.Reply T.Output T.Job T.Bench) (Entry T T.Plate T.Edit T.Reply T.Output T.Job T.Bench) TableName) (table : TableName) → IsOf lock pass → reads_at reader ≡ table → IsReady T.meaning T.job_value T.runs lock table result }
-        ensures actor { result.actor ≡ Actor.Worker id }
+        ensures ready { IsReadyWherever T.meaning T.job_value T.runs pass reader result }
+        ensures actor { actor_of result ≡ Actor.Worker id }
+        ensures commands { commands_of result ≡ [] }
         ensures seen { seen_by result ≡ seen pass }
-        ensures stays { MayGoOn result.actor (seen_by result) }
+        ensures stays { MayGoOn (actor_of result) (seen_by result) }
     {
         Runner {
             actor: Actor::Worker(id),
@@ -126,8 +124,8 @@ impl<T: Technology> Runner<T> {
     pub fn into_parts(self) -> (Pass<Plant<T>>, u64)
         requires { HasHands self }
         ensures pass { known result.0 ≡ known_by self }
-        ensures lock { (lock : TurnLock (Plant T T.Plate T.Edit T.Reply T.Output T.Job T.Bench) (Entry T T.Plate T.Edit T.Reply T.Output T.Job T.Bench) TableName) (table : TableName) → IsAt lock table self → IsOf lock result.0 }
-        ensures runs { result.1 ≡ T.runs self.bench }
+        ensures lock { IsOfItsLock result.0 self }
+        ensures runs { result.1 ≡ runs_at T.runs self }
     {
         let Runner { hands, bench, .. } = self;
         let runs = T::runs(&bench);
@@ -139,7 +137,7 @@ impl<T: Technology> Runner<T> {
 
     /// How many of its jobs were stopped.
     pub fn stopped(&self) -> u64
-        ensures { result ≡ self.now.stopped }
+        ensures { result ≡ stopped_of self.now }
     {
         self.stopped
     }

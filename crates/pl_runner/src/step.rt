@@ -1,13 +1,11 @@
 //! A step of a runner, whatever it has to do, and its whole run.
-ghost use Rattle.std.specs.Prelude.{◌≡◌, None, OnOk, OnErr};
+ghost use Rattle.std.specs.Prelude.{◌≡◌};
 ghost use Rattle.std.specs.Thread.{IsSync};
 ghost use Rattle.pl_epochs.specs.Words.{table_of};
-ghost use Rattle.pl_order.specs.Order.{HasSaidBye};
-ghost use Rattle.pl_machine.specs.History.{replay};
 ghost use Rattle.pl_runner.specs.Closing.{epochs_of};
-ghost use Rattle.pl_runner.specs.Causes.{MayGoOn, SeesAllLeft};
-ghost use Rattle.pl_runner.specs.Running.{IsAt, IsReady, own_of, seen_by};
-ghost use Rattle.pl_runner.specs.Stepping.{CountsStopped, HasCome, HasMoved, HasWaited, Keeps, MatchStep, UnlessMemory};
+ghost use Rattle.pl_runner.specs.Causes.{MayGoOn};
+ghost use Rattle.pl_runner.specs.Running.{IsAt, IsIdle, IsReady, actor_of, own_of, seen_by};
+ghost use Rattle.pl_runner.specs.Stepping.{CountsStopped, HasCome, HasMoved, HasWaited, Keeps, MatchStep, MayGoOnUnlessEnded, UnlessMemory};
 
 use crate::Runner;
 use pl_epochs::EpochTable;
@@ -15,7 +13,6 @@ use pl_plant::Plant;
 use pl_ports::Gate;
 use pl_tech::Technology;
 use pl_turn::TurnLock;
-use pl_units::NoMemory;
 use std::alloc::Global;
 use std::sync::Wait;
 use std::thread::Threads;
@@ -53,12 +50,12 @@ impl<T: Technology> Runner<T> {
         requires shared { IsSync R.row }
         requires home { epochs_of lock.now ≡ table_of epochs.now }
         requires ready { IsReady T.meaning T.job_value T.runs lock.now (table_of epochs.now) self.old }
-        requires stays { MayGoOn self.old.actor (seen_by self.old) }
+        requires stays { MayGoOn (actor_of self.old) (seen_by self.old) }
         ensures keeps { Keeps self.old self.new }
         ensures at { IsAt lock.now (table_of epochs.now) self.new }
         ensures ready { UnlessMemory result (IsReady T.meaning T.job_value T.runs lock.now (table_of epochs.now) self.new) }
-        ensures stays { MatchStep result (MayGoOn self.new.actor (seen_by self.new)) (MayGoOn self.new.actor (seen_by self.new)) (HasSaidBye self.new.actor (seen_by self.new)) (Unit {0}) }
-        ensures idle { MatchStep result (Unit {0}) (self.new.started ≡ None) (self.new.started ≡ None) (Unit {0}) }
+        ensures stays { MayGoOnUnlessEnded result self.new }
+        ensures idle { MatchStep result (Unit {0}) (IsIdle self.new) (IsIdle self.new) (Unit {0}) }
         ensures moved { MatchStep result (HasMoved self.old self.new) (Unit {0}) (Unit {0}) (Unit {0}) }
         ensures waits { MatchStep result (Unit {0}) (HasWaited T.meaning sessions self.old self.new) (Unit {0}) (Unit {0}) }
         ensures ended { MatchStep result (Unit {0}) (Unit {0}) (HasCome T.meaning sessions self.old self.new) (Unit {0}) }

@@ -1,18 +1,18 @@
 //! The turns of a runner without work, at the lock of the plant. What a turn tells holds for every schedule.
-ghost use Rattle.std.specs.Prelude.{◌≡◌, ◌+◌, ◌<◌, ◌≤◌, ◌-◌, ◌^◌, None, [], ◌∷◌, ◌++◌, All, IfSome, length, map, slice_get};
+ghost use Rattle.std.specs.Prelude.{◌≡◌, ◌<◌, ◌≤◌, ◌-◌, ◌^◌, None, [], All, IfSome, length, map, slice_get};
 ghost use Rattle.std.specs.Arc.{arc_value};
 ghost use mathlib.Core.List.{IsPrefix};
 ghost use Rattle.pl_epochs.specs.Words.{table_of};
 ghost use Rattle.pl_machine.specs.History.{replay};
 ghost use Rattle.pl_machine.specs.Startable.{AllLeft};
 ghost use Rattle.pl_machine.specs.Calls.{NamesSession};
-ghost use Rattle.pl_machine.specs.Tickets.{number_of, start_of};
+ghost use Rattle.pl_machine.specs.Tickets.{number_of};
 ghost use Rattle.pl_plant.specs.Tickets.{TicketStands};
 ghost use Rattle.pl_turn.specs.Passes.{AreOfOne, Fits, IsOf, joined, number, own, seen, splits};
-ghost use Rattle.pl_order.specs.Order.{HasSaidBye, IsInOrder, bye_of, calls_in};
+ghost use Rattle.pl_order.specs.Order.{HasSaidBye, IsInOrder, calls_in};
 ghost use Rattle.pl_runner.specs.Closing.{epochs_of};
-ghost use Rattle.pl_runner.specs.Looked.{IfBegun, IfEnded, IfWaits, MatchLooked, work_in};
-ghost use Rattle.pl_runner.specs.Causes.{GrewByCall, SessionWaits, WorkerWaits};
+ghost use Rattle.pl_runner.specs.Looked.{CountsCall, GrewAsWorker, GrewByBye, GrewByNext, IfBegun, IfEnded, IfWaits, work_in};
+ghost use Rattle.pl_runner.specs.Causes.{SessionWaits, WorkerWaits};
 
 use crate::Looked;
 use crate::looking::{ask, look_for_work, say_bye};
@@ -45,7 +45,7 @@ pub(crate) fn worker_turn<T: Technology, R: Wait>(
     ensures splits { splits result.1 ≡ splits pass }
     ensures seen { IsPrefix (seen pass) (seen result.1) }
     ensures fits { Fits result.1 (seen result.1) }
-    ensures own { MatchLooked result.0 ⊥ (λ t _. own result.1 ≡ own pass ++ start_of (Actor.Worker worker) t.slot t.epoch ∷ []) (own result.1 ≡ own pass) (own result.1 ≡ own pass) (own result.1 ≡ own pass) }
+    ensures own { GrewAsWorker (own pass) (own result.1) worker result.0 }
     ensures order { IsInOrder T.meaning [] (Actor.Worker worker) (seen result.1) (work_in T.job_value result.0) }
     ensures ticket { IfBegun result.0 (λ t job. (t.actor ≡ Actor.Worker worker) × (t.job.value ≡ job)) }
     ensures short { IfBegun result.0 (λ _ _. length (seen result.1) < 2 ^ 64) }
@@ -59,7 +59,11 @@ pub(crate) fn worker_turn<T: Technology, R: Wait>(
         Looked::Begun(ticket, job) => (Looked::Begun(ticket, job), turn.end_with()),
         Looked::Ended => (Looked::Ended, turn.end()),
         Looked::Waits => (Looked::Waits, turn.end()),
-        Looked::NoMemory => (Looked::NoMemory, turn.end()),
+        Looked::NoMemory => {
+            let pass = turn.end();
+            lock.tell_change();
+            (Looked::NoMemory, pass)
+        }
     }
 }
 
@@ -92,8 +96,8 @@ pub(crate) fn session_turn<T: Technology, R: Wait>(
     ensures splits { splits result.1 ≡ splits pass }
     ensures seen { IsPrefix (seen pass) (seen result.1) }
     ensures fits { Fits result.1 (seen result.1) }
-    ensures own { MatchLooked result.0 (IfSome (slice_get (map arc_value commands.now) made) (λ command. GrewByCall session command (own pass) (own result.1))) (λ t _. own result.1 ≡ own pass ++ start_of (Actor.Session session) t.slot t.epoch ∷ []) ⊥ (own result.1 ≡ own pass) (own result.1 ≡ own pass) }
-    ensures made { MatchLooked result.0 (length (calls_in (own result.1)) ≡ made + 1) (λ _ _. length (calls_in (own result.1)) ≡ made) ⊥ (length (calls_in (own result.1)) ≡ made) (length (calls_in (own result.1)) ≡ made) }
+    ensures own { GrewByNext (own pass) (own result.1) session (slice_get (map arc_value commands.now) made) result.0 }
+    ensures made { CountsCall made (length (calls_in (own result.1))) result.0 }
     ensures order { IsInOrder T.meaning (map arc_value commands.now) (Actor.Session session) (seen result.1) (work_in T.job_value result.0) }
     ensures stays { ¬ HasSaidBye (Actor.Session session) (seen result.1) }
     ensures ticket { IfBegun result.0 (λ t job. (t.actor ≡ Actor.Session session) × (t.job.value ≡ job)) }
@@ -107,7 +111,11 @@ pub(crate) fn session_turn<T: Technology, R: Wait>(
         Looked::Begun(ticket, job) => (Looked::Begun(ticket, job), turn.end_with()),
         Looked::Ended => unreachable!(),
         Looked::Waits => (Looked::Waits, turn.end()),
-        Looked::NoMemory => (Looked::NoMemory, turn.end()),
+        Looked::NoMemory => {
+            let pass = turn.end();
+            lock.tell_change();
+            (Looked::NoMemory, pass)
+        }
     }
 }
 
@@ -132,7 +140,7 @@ pub(crate) fn bye_turn<T: Technology, R: Wait>(
     ensures splits { splits result.1 ≡ splits pass }
     ensures seen { IsPrefix (seen pass) (seen result.1) }
     ensures fits { Fits result.1 (seen result.1) }
-    ensures own { MatchLooked result.0 ⊥ (λ _ _. ⊥) (own result.1 ≡ own pass ++ bye_of (Actor.Session session) ∷ []) ⊥ (own result.1 ≡ own pass) }
+    ensures own { GrewByBye (own pass) (own result.1) session result.0 }
     ensures order { IsInOrder T.meaning (map arc_value commands.now) (Actor.Session session) (seen result.1) None }
     ensures said { IfEnded result.0 (HasSaidBye (Actor.Session session) (seen result.1)) }
 {
@@ -142,6 +150,10 @@ pub(crate) fn bye_turn<T: Technology, R: Wait>(
         Looked::Begun(_, _) => unreachable!(),
         Looked::Ended => (Looked::Ended, turn.end_with()),
         Looked::Waits => unreachable!(),
-        Looked::NoMemory => (Looked::NoMemory, turn.end()),
+        Looked::NoMemory => {
+            let pass = turn.end();
+            lock.tell_change();
+            (Looked::NoMemory, pass)
+        }
     }
 }

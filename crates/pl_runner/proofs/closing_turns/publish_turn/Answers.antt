@@ -1,7 +1,7 @@
 use Rattle.std.proofs.Common.{refl, ap, ◌∙◌, Some}
 use Rattle.pl_turn.specs.Passes.{number, own, seen}
 use Rattle.pl_machine.specs.declared.entry.What.TheVariants.{Finish, Late}
-use Rattle.pl_runner.specs.Closing.{finish_of, late_of, work_of}
+use Rattle.pl_runner.specs.Closing.{finish_of, late_of, ticket_work}
 use Rattle.pl_runner.proofs.Went.{Finds, finds, seen_grown}
 use Rattle.pl_runner.proofs.Leaves.{still_stands, unchanged, closed}
 use Rattle.pl_runner.proofs.closing_turns.publish_turn.Given.{Over}
@@ -16,7 +16,7 @@ found g c =
     c.requires.number c.args.pass.entries.0 (ap (λ p. p.journal) (c.value.ensures.shows ∙ t.value)) t.fits.0 t.fits.1.0
 
 pub publish-requires-clause-ticket : goal.publish-requires-clause-ticket
-publish-requires-clause-ticket g c κs within =
+publish-requires-clause-ticket g c =
     let a = c.args.ticket in
     still_stands a.actor (found g (goal.at.publish-requires-clause-ticket g c).After-value) g.T.Technology.meaning a.slot a.epoch (g.T.Technology.job_value a.job.value) c.requires.stands
 
@@ -29,7 +29,7 @@ pub returns-in-Done-clause-order : goal.returns-in-Done-clause-order
 returns-in-Done-clause-order g c = λ commands order.
     let a = c.args.ticket in
     let e = c.in-Done.ensures in
-    closed a.actor (found g (goal.at.returns-in-Done-clause-order g c).After-value) g.T.Technology.meaning commands (Some (work_of g.T.Technology.job_value a)) order
+    closed a.actor (found g (goal.at.returns-in-Done-clause-order g c).After-value) g.T.Technology.meaning commands (Some (ticket_work g.T.Technology.job_value a)) order
     _ _ (Finish a.slot a.epoch) refl e.stood.legal e.stands.legal e.journal c.end_with.ensures.seen
 
 pub returns-in-Late-clause-seen : goal.returns-in-Late-clause-seen
@@ -41,12 +41,12 @@ pub returns-in-Late-clause-order : goal.returns-in-Late-clause-order
 returns-in-Late-clause-order g c = λ commands order.
     let a = c.args.ticket in
     let e = c.in-Late.ensures in
-    closed a.actor (found g (goal.at.returns-in-Late-clause-order g c).After-value) g.T.Technology.meaning commands (Some (work_of g.T.Technology.job_value a)) order
+    closed a.actor (found g (goal.at.returns-in-Late-clause-order g c).After-value) g.T.Technology.meaning commands (Some (ticket_work g.T.Technology.job_value a)) order
     _ _ (Late a.slot c.in-Late.since c.in-Late.now) refl e.stood.legal e.stands.legal e.journal c.end_with-in-Late.ensures.seen
 
 pub returns-in-NoMemory-clause-order : goal.returns-in-NoMemory-clause-order
 returns-in-NoMemory-clause-order g c = λ commands order.
     let a = c.args.ticket in
     let e = c.in-NoMemory.ensures in
-    unchanged a.actor (found g (goal.at.returns-in-NoMemory-clause-order g c).After-value) g.T.Technology.meaning commands (Some (work_of g.T.Technology.job_value a)) order
-    _ _ e.stood.legal e.journal c.end.ensures.seen
+    unchanged a.actor (found g (goal.at.returns-in-NoMemory-clause-order g c).After-value) g.T.Technology.meaning commands (Some (ticket_work g.T.Technology.job_value a)) order
+    _ _ e.stood.legal e.journal c.end-pass.ensures.seen

@@ -4,9 +4,9 @@ use Rattle.pl_runner.specs.declared.closed.Closed.TheVariants.{Done, Late, NoMem
 use Rattle.pl_runner.specs.Closing.{MatchClosed}
 use Rattle.pl_runner.proofs.finishing.close_job.Goals as goal
 
--- what was never published was too late, or nothing
-loosened : (P Q : Type 0) (F : ℕ → ℕ → Type 0) (closed : Closed) → MatchClosed closed ⊥ F Q → MatchClosed closed P F (Unit {0})
-loosened P Q F Done none = absurd none
+-- what holds after each closing holds where memory was not wanting
+loosened : (P Q : Type 0) (F : ℕ → ℕ → Type 0) (closed : Closed) → MatchClosed closed P F Q → MatchClosed closed P F (Unit {0})
+loosened P Q F Done done = done
 loosened P Q F (Late since now) late = late
 loosened P Q F NoMemory kept = tt
 

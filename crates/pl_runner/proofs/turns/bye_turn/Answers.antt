@@ -6,12 +6,14 @@ use Rattle.pl_turn.specs.Passes.{seen}
 use Rattle.pl_runner.proofs.Went.{finds, seen_grown, idle, may_leave, none_next, left}
 use Rattle.pl_runner.proofs.turns.bye_turn.Goals as goal
 
-pub say_bye-requires-clause-may : goal.say_bye-requires-clause-may
-say_bye-requires-clause-may g c κs within =
+pub say_bye-requires : goal.say_bye-requires
+say_bye-requires g c =
     let t = c.take-turn.ensures in
-    λ stands. may_leave g.T.Technology.meaning (map arc_value c.args.commands.now) c.args.session _
-    (finds (Session c.args.session) (seen c.args.pass) _ _ _ _ c.requires.number c.args.pass.entries.0 (ap (λ p. p.journal) (c.value.ensures.shows ∙ t.value)) t.fits.0 t.fits.1.0)
-    c.requires.order c.requires.stays stands.legal stands.replayed
+    record {
+      may = λ stands. may_leave g.T.Technology.meaning (map arc_value c.args.commands.now) c.args.session _
+          (finds (Session c.args.session) (seen c.args.pass) _ _ _ _ c.requires.number c.args.pass.entries.0 (ap (λ p. p.journal) (c.value.ensures.shows ∙ t.value)) t.fits.0 t.fits.1.0)
+          c.requires.order c.requires.stays stands.legal stands.replayed;
+    }
 
 pub returns-in-Ended-clause-seen : goal.returns-in-Ended-clause-seen
 returns-in-Ended-clause-seen g c =
@@ -36,4 +38,4 @@ returns-in-NoMemory-clause-order g c =
     let e = c.in-NoMemory.ensures in
     idle g.T.Technology.meaning (map arc_value c.args.commands.now) (Session c.args.session) _ _
     (finds (Session c.args.session) (seen c.args.pass) _ _ _ _ c.requires.number c.args.pass.entries.0 (ap (λ p. p.journal) (c.value.ensures.shows ∙ t.value)) t.fits.0 t.fits.1.0)
-    c.requires.order e.stood.legal e.journal c.end.ensures.seen
+    c.requires.order e.stood.legal e.journal c.end-pass.ensures.seen

@@ -9,7 +9,7 @@ use Rattle.pl_runner.proofs.Went.{call_by, calls_called, calls_begun, finds, see
 use Rattle.pl_runner.proofs.turns.session_turn.Goals as goal
 
 pub ask-requires-clause-may : goal.ask-requires-clause-may
-ask-requires-clause-may g c κs within =
+ask-requires-clause-may g c =
     let t = c.take-turn.ensures in
     λ stands. may_ask g.T.Technology.meaning (map arc_value c.args.commands.now) c.args.session _ (arc_value c.index-commands-made.result)
     (finds (Session c.args.session) (seen c.args.pass) _ _ _ _ c.requires.number c.args.pass.entries.0 (ap (λ p. p.journal) (c.value.ensures.shows ∙ t.value)) t.fits.0 t.fits.1.0)
@@ -20,7 +20,7 @@ ask-requires-clause-may g c κs within =
     stands.legal stands.replayed
 
 pub ask-requires-clause-calls : goal.ask-requires-clause-calls
-ask-requires-clause-calls g c κs within =
+ask-requires-clause-calls g c =
     let t = c.take-turn.ensures in
     λ stands. few_calls g.T.Technology.meaning (map arc_value c.args.commands.now) c.args.session _ (arc_value c.index-commands-made.result)
     (finds (Session c.args.session) (seen c.args.pass) _ _ _ _ c.requires.number c.args.pass.entries.0 (ap (λ p. p.journal) (c.value.ensures.shows ∙ t.value)) t.fits.0 t.fits.1.0)
@@ -31,7 +31,7 @@ ask-requires-clause-calls g c κs within =
     (subst (λ n. n ≤ 2 ^ 32 - 1) (sym (length-map c.args.commands.now arc_value)) c.requires.few) stands.legal stands.replayed
 
 pub ask-requires-clause-names : goal.ask-requires-clause-names
-ask-requires-clause-names g c κs within =
+ask-requires-clause-names g c =
     named (map arc_value c.args.commands.now) c.args.made (arc_value c.index-commands-made.result) c.requires.names (at_index arc_value c.args.commands.now c.args.made c.index-commands-made.result c.index-commands-made.is c.requires.within)
 
 pub returns-in-Called-clause-seen : goal.returns-in-Called-clause-seen
@@ -137,7 +137,7 @@ returns-in-NoMemory-clause-order g c =
     let e = c.in-NoMemory.ensures in
     idle g.T.Technology.meaning (map arc_value c.args.commands.now) (Session c.args.session) _ _
     (finds (Session c.args.session) (seen c.args.pass) _ _ _ _ c.requires.number c.args.pass.entries.0 (ap (λ p. p.journal) (c.value.ensures.shows ∙ t.value)) t.fits.0 t.fits.1.0)
-    c.requires.order e.stood.legal e.journal c.end-in-NoMemory.ensures.seen
+    c.requires.order e.stood.legal e.journal c.end-pass.ensures.seen
 
 pub returns-in-NoMemory-clause-stays : goal.returns-in-NoMemory-clause-stays
 returns-in-NoMemory-clause-stays g c =
@@ -149,7 +149,7 @@ returns-in-NoMemory-clause-stays g c =
     (next_is g.T.Technology.meaning (map arc_value c.args.commands.now) (Session c.args.session) c.args.made (arc_value c.index-commands-made.result)
     (finds (Session c.args.session) (seen c.args.pass) _ _ _ _ c.requires.number c.args.pass.entries.0 (ap (λ p. p.journal) (c.value.ensures.shows ∙ t.value)) t.fits.0 t.fits.1.0)
     c.requires.made (at_index arc_value c.args.commands.now c.args.made c.index-commands-made.result c.index-commands-made.is c.requires.within))
-    e.stood.legal e.journal c.end-in-NoMemory.ensures.seen
+    e.stood.legal e.journal c.end-pass.ensures.seen
 
 pub returns-in-Called-clause-made : goal.returns-in-Called-clause-made
 returns-in-Called-clause-made g c =

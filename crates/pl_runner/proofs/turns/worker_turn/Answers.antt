@@ -8,7 +8,7 @@ use Rattle.pl_runner.proofs.Went.{finds, seen_grown, replayed, idle, free, begun
 use Rattle.pl_runner.proofs.turns.worker_turn.Goals as goal
 
 pub look_for_work-requires-clause-free : goal.look_for_work-requires-clause-free
-look_for_work-requires-clause-free g c κs within =
+look_for_work-requires-clause-free g c =
     let t = c.take-turn.ensures in
     λ stands. free g.T.Technology.meaning [] (Worker c.args.worker) _
     (finds (Worker c.args.worker) (seen c.args.pass) _ _ _ _ c.requires.number c.args.pass.entries.0 (ap (λ p. p.journal) (c.value.ensures.shows ∙ t.value)) t.fits.0 t.fits.1.0)
@@ -67,4 +67,4 @@ returns-in-NoMemory-clause-order g c =
     let e = c.in-NoMemory.ensures in
     idle g.T.Technology.meaning [] (Worker c.args.worker) _ _
     (finds (Worker c.args.worker) (seen c.args.pass) _ _ _ _ c.requires.number c.args.pass.entries.0 (ap (λ p. p.journal) (c.value.ensures.shows ∙ t.value)) t.fits.0 t.fits.1.0)
-    c.requires.order e.stood.legal e.journal c.end-in-NoMemory.ensures.seen
+    c.requires.order e.stood.legal e.journal c.end-pass.ensures.seen

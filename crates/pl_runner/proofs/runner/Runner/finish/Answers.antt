@@ -7,8 +7,8 @@ run_job-ran-requires-clause-room g c κs within =
     let t = g.T.Technology in
     few_runs t.meaning t.job_value t.runs _ _ c.args.self.now c.requires.ready c.in-Some-take.started c.in-Some.field-0 _ (search rules) (search rules) c.in-Some.field-0.pass.entries.0
 
-pub count-requires-after_bounds : goal.count-requires-after_bounds
-count-requires-after_bounds g c κs within =
+pub count-requires : goal.count-requires
+count-requires g c =
     let t = g.T.Technology in
     let few = few_runs t.meaning t.job_value t.runs _ _ c.args.self.now c.requires.ready c.in-Some-take.started c.in-Some.field-0 _ (search rules) (search rules) c.in-Some.field-0.pass.entries.0 in
     let stopped = c.requires.ready.few_stopped in
