@@ -18,4 +18,4 @@ pub use laws::{
     two_rounds_are_the_closure, what_is_touched_takes,
 };
 pub use needing::{needs, present};
-pub use touching::touched;
+pub use touching::{touched, touched_but};

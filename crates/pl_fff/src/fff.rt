@@ -3,8 +3,8 @@ ghost use Rattle.std.specs.Prelude.{◌≡◌};
 
 use crate::job::FffJob;
 use crate::slot_jobs::slot_job;
-use pl_cascade::{needs, present, touched};
-use pl_model::{Edit, EditReply, Plate};
+use pl_cascade::{needs, present, touched, touched_but};
+use pl_model::{Edit, EditReply, Plate, changed_meshes};
 use pl_ports::Probe;
 use pl_slots::{FffOutput, put_name};
 use pl_tech::{Kept, Problem, Ran, Slot, SlotSet, Technology};
@@ -19,11 +19,14 @@ pub struct FffBench {
 }
 
 /// Objects printed layer by layer of molten plastic. Each object of a plate has six slots, its slices, perimeters, surfaces,
-/// infill, ironing and support, and the plate has four, tower, skirt, brim and export; slot 99, the export, has the G-code.
+/// infill, ironing and support, and the plate has four, tower, skirt, brim and export; slot 99, the export, has the G-code. The parts
+/// that plates may have alike are the meshes of their sixteen places.
 #[derive(Debug, Drop)]
 pub struct Fff;
 
 impl Technology for Fff {
+    ghost use Rattle.pl_model.specs.Meshes.{SharesMesh};
+    ghost use Rattle.pl_model.proofs.Sharing.{shares_meshes};
     ghost use Rattle.pl_slots.specs.Fff.{fff_meaning};
     ghost use Rattle.pl_slots.proofs.FffLaws.{fff_laws};
     ghost use Rattle.pl_fff.specs.Jobs.{job_value, job_polls};
@@ -42,11 +45,15 @@ impl Technology for Fff {
 
     ghost meaning = { fff_meaning };
 
+    ghost shares = { SharesMesh };
+
     ghost runs = { λ b. b.runs };
 
     ghost job_value = { job_value };
 
     ghost job_polls = { job_polls };
+
+    ghost sharing = { shares_meshes };
 
     ghost laws = { fff_laws };
 
@@ -80,6 +87,18 @@ impl Technology for Fff {
 
     fn touched(old: &Plate, new: &Plate) -> SlotSet {
         touched(old, new)
+    }
+
+    fn changes(edit: &Edit, reply: &EditReply) -> SlotSet {
+        changed_meshes(edit, reply)
+    }
+
+    fn same_but(a: &Plate, b: &Plate, apart: SlotSet) -> bool {
+        a.same_but(b, apart)
+    }
+
+    fn touched_but(old: &Plate, new: &Plate, apart: SlotSet) -> SlotSet {
+        touched_but(old, new, apart)
     }
 
     fn bench() -> FffBench {

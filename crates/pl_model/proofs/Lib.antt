@@ -8,3 +8,5 @@ pub mod Positions
 pub mod Edits
 pub mod Printing
 pub mod SamePlates
+pub mod Keeping
+pub mod Sharing

@@ -11,3 +11,4 @@ pub mod Stops
 pub mod Same
 pub mod Editing
 pub mod Printable
+pub mod Meshes

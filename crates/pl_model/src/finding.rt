@@ -11,10 +11,9 @@ use crate::object::Object;
 use crate::stop::Stop;
 use pl_edit::{Block, EditRefusal, ValueText};
 use pl_options::{IniSet, Key, Value, ValueStop, is_object_key, key_of, read_ini, read_value};
-use pl_stl::{Mesh, read_stl};
+use pl_stl::Mesh;
 use pl_units::{Refusal, Shared};
 use std::alloc::Global;
-use std::sync::Arc;
 
 /// The option of a key.
 pub(crate) fn key_in(text: &[u8]) -> Result<Key, EditRefusal>
@@ -51,16 +50,10 @@ pub(crate) fn value_in(alloc: Global, key: Key, text: &ValueText) -> Result<Valu
 pub(crate) fn mesh_in(alloc: Global, block: &Block) -> Result<Shared<Mesh>, Stop>
     ensures { Finds (mesh_in block.now.bytes) result }
 {
-    let mesh = match read_stl(alloc, block.bytes()) {
-        Ok(mesh) => mesh,
-        Err(Refusal::Fault { line, fault }) => {
-            return Err(Stop::Refused(EditRefusal::BadStl(line, fault)));
-        }
-        Err(Refusal::NoMemory) => return Err(Stop::NoMemory),
-    };
-    match Arc::new(alloc, mesh) {
-        Ok(arc) => Ok(Shared::of(arc)),
-        Err(_) => Err(Stop::NoMemory),
+    match block.mesh(alloc) {
+        Ok(mesh) => Ok(mesh),
+        Err(Refusal::Fault { line, fault }) => Err(Stop::Refused(EditRefusal::BadStl(line, fault))),
+        Err(Refusal::NoMemory) => Err(Stop::NoMemory),
     }
 }
 

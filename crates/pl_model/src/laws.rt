@@ -1,5 +1,5 @@
 //! Laws of plates, of edits and of settings texts.
-ghost use Rattle.std.specs.Prelude.{◌≡◌, ◌↔◌, ℕ, ◌+◌, ◌<◌, ◌≤◌, List, Option, Some, None, Ok, Err, remove, slice_get};
+ghost use Rattle.std.specs.Prelude.{◌≡◌, ◌↔◌, ℕ, ◌+◌, ◌<◌, ◌≤◌, false, List, Option, Some, None, Ok, Err, remove, slice_get};
 ghost use Rattle.std.specs.Option.{option_or};
 ghost use Rattle.std.specs.FinMap.{get};
 ghost use Rattle.pl_keys.specs.declared.key.Key.{Key};
@@ -12,6 +12,7 @@ ghost use Rattle.pl_tech.specs.declared.problem.Problem.{Problem};
 ghost use Rattle.pl_model.specs.declared.instances.Shift.{Shift};
 ghost use Rattle.pl_model.specs.Contents.{Contents};
 ghost use Rattle.pl_model.specs.Editing.{IsEdited};
+ghost use Rattle.pl_model.specs.Meshes.{HaveOneMesh, may_change};
 ghost use Rattle.pl_model.specs.Outcomes.{edited, edit_reply};
 ghost use Rattle.pl_model.specs.Places.{ArePlaces};
 ghost use Rattle.pl_model.specs.Printable.{HasProblem, CanBePrinted};
@@ -29,6 +30,11 @@ pub fn settings_texts_have_one_reading()
 /// tells, and no others.
 pub fn edits_are_what_they_say()
     ensures { (old : Contents) (edit : Edit) (reply : EditReply) (new : Contents) → ArePlaces old.places → IsEdited old edit reply new ↔ ((reply ≡ edit_reply old edit) × (new ≡ edited old edit)) }
+{}
+
+/// A law: an edit keeps the mesh of each place, or that none is there, but of those whose mesh it may change.
+pub fn edits_keep_other_meshes()
+    ensures { (plate : Contents) (edit : Edit) (place : ℕ) → may_change edit (edit_reply plate edit) place ≡ false → HaveOneMesh plate (edited plate edit) place }
 {}
 
 /// A law: after a drop the earlier instances have their numbers, and each later one has the number before its own.

@@ -1,5 +1,5 @@
 //! The objects of a plate.
-ghost use Rattle.std.specs.Prelude.{◌≡◌, ◌↔◌, IfOk, IsTrue};
+ghost use Rattle.std.specs.Prelude.{◌≡◌, ◌↔◌, false, IfOk, IsTrue};
 ghost use Rattle.pl_model.specs.Same.{IsAlike};
 
 use crate::instances::Instances;
@@ -51,8 +51,20 @@ impl Object {
         self.instances.shifts() == other.instances.shifts()
     }
 
-    /// Whether two objects are equal: of the same name, the same facets in the same order, turn, overrides and instances.
-    pub fn same(&self, other: &Object) -> bool
+    /// Whether the meshes are equal, of the same facets in the same order. They are, unless they may be apart.
+    pub fn same_mesh(&self, other: &Object, apart: bool) -> bool
+        requires { apart ≡ false → self.now.mesh ≡ other.now.mesh }
+        ensures { IsTrue result ↔ (self.now.mesh ≡ other.now.mesh) }
+    {
+        if !apart {
+            return true;
+        }
+        self.mesh.get().facets() == other.mesh.get().facets()
+    }
+
+    /// Whether two objects are equal, whose meshes are unless they may be apart.
+    pub fn same_but(&self, other: &Object, apart: bool) -> bool
+        requires { apart ≡ false → self.now.mesh ≡ other.now.mesh }
         ensures { IsTrue result ↔ (self.now ≡ other.now) }
     {
         let alike = self.is_alike(other);
@@ -60,6 +72,13 @@ impl Object {
         if !alike || !overrides {
             return false;
         }
-        self.mesh.get().facets() == other.mesh.get().facets()
+        self.same_mesh(other, apart)
+    }
+
+    /// Whether two objects are equal: of the same name, the same facets in the same order, turn, overrides and instances.
+    pub fn same(&self, other: &Object) -> bool
+        ensures { IsTrue result ↔ (self.now ≡ other.now) }
+    {
+        self.same_but(other, true)
     }
 }

@@ -1,5 +1,7 @@
 //! The plate.
-ghost use Rattle.std.specs.Prelude.{◌≡◌, ◌<◌, ◌↔◌, Some, None, IfOk, IfSome, IsSome, OnErr, IsTrue, MatchOption, replicate};
+ghost use Rattle.std.specs.Prelude.{◌≡◌, ◌<◌, ◌↔◌, Some, None, IfOk, IfSome, IsSome, OnErr, IsTrue, MatchOption, replicate, ℕ, length, true, false};
+ghost use Rattle.pl_tech.specs.Slots.{has};
+ghost use Rattle.pl_model.specs.Meshes.{mesh_there, mesh_at, ShareMeshes};
 ghost use Rattle.std.specs.Option.{option_copied};
 ghost use Rattle.pl_keys.specs.Values.{IsValueOf};
 ghost use Rattle.pl_model.specs.Places.{ArePlaces, place_in};
@@ -12,12 +14,13 @@ ghost use Rattle.pl_model.specs.Problem.{problem_of};
 ghost use Rattle.pl_model.specs.Same.{same_plates};
 
 use crate::effective::value_for;
+use crate::meshes::all_places;
 use crate::object::Object;
 use crate::problem::{first_problem, is_empty};
 use crate::stop::Stop;
 use pl_edit::{Edit, EditReply};
 use pl_options::{Config, Key, Value};
-use pl_tech::Problem;
+use pl_tech::{Problem, Slot, SlotSet};
 use pl_units::NoMemory;
 use std::alloc::Global;
 use std::marker::Model;
@@ -43,25 +46,28 @@ impl Model for Plate {
 }
 
 // Whether both places are empty, or have equal objects.
-fn same_place(one: &Option<Object>, other: &Option<Object>) -> bool
+fn same_place(one: &Option<Object>, other: &Option<Object>, apart: bool) -> bool
+    requires { apart ≡ false → mesh_there one.now ≡ mesh_there other.now }
     ensures { IsTrue result ↔ (one.now ≡ other.now) }
 {
     match (one, other) {
-        (Some(object), Some(another)) => object.same(another),
+        (Some(object), Some(another)) => object.same_but(another, apart),
         (None, None) => true,
         _ => false,
     }
 }
 
 // Whether both lists have equal places.
-fn same_places(some: &[Option<Object>], others: &[Option<Object>]) -> bool
+fn same_places(some: &[Option<Object>], others: &[Option<Object>], apart: SlotSet) -> bool
+    requires sixteen { length some.now ≡ 16 }
+    requires alike { (place : ℕ) → place < 16 → has apart place ≡ false → mesh_at some.now place ≡ mesh_at others.now place }
     ensures { IsTrue result ↔ (some.now ≡ others.now) }
 {
     if some.len() != others.len() {
         return false;
     }
     for at in 0..some.len() {
-        if !same_place(&some[at], &others[at]) {
+        if !same_place(&some[at], &others[at], apart.has(Slot::of(at as u8))) {
             return false;
         }
     }
@@ -119,11 +125,21 @@ impl Plate {
         Ok(Plate { config, places })
     }
 
-    // Whether configurations and places are equal.
-    fn is_equal(&self, other: &Plate) -> bool
+    // Whether configurations and places are equal, where all meshes but these are.
+    fn is_equal(&self, other: &Plate, apart: SlotSet) -> bool
+        requires { ShareMeshes apart self.now other.now }
         ensures { IsTrue result ↔ (self.now ≡ other.now) }
     {
-        self.config.same(&other.config) && same_places(&self.places, &other.places)
+        self.config.same(&other.config) && same_places(&self.places, &other.places, apart)
+    }
+
+    /// Whether two plates are equal, where the meshes at all places but these are.
+    pub fn same_but(&self, other: &Plate, apart: SlotSet) -> bool
+        requires { ShareMeshes apart self.now other.now }
+        ensures same { result ≡ same_plates self.now other.now }
+        ensures equal { IsTrue result ↔ (self.now ≡ other.now) }
+    {
+        self.is_equal(other, apart)
     }
 
     /// Whether two plates are equal: of equal configurations, and in each place both are empty or have equal objects.
@@ -131,7 +147,7 @@ impl Plate {
         ensures same { result ≡ same_plates self.now other.now }
         ensures equal { IsTrue result ↔ (self.now ≡ other.now) }
     {
-        self.is_equal(other)
+        self.same_but(other, all_places())
     }
 
     /// The object at a place. `None` exactly where the place is empty or above 15.

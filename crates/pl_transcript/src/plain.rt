@@ -12,6 +12,7 @@ use std::thread::Threads;
 pub struct Plain;
 
 impl Technology for Plain {
+    ghost use Rattle.std.specs.Prelude.{⊤};
     ghost use Rattle.pl_tech.specs.Toy.{toy_job_value};
     ghost use Rattle.pl_transcript.specs.Plain.{plain_meaning, plain_laws};
 
@@ -29,11 +30,15 @@ impl Technology for Plain {
 
     ghost meaning = { plain_meaning };
 
+    ghost shares = { λ _ _ _. ⊤ };
+
     ghost runs = { λ b. b.runs };
 
     ghost job_value = { toy_job_value };
 
     ghost job_polls = { λ _. 1 };
+
+    ghost sharing = { record { itself = λ _ _. tt; onwards = λ _ _ _ _ _ _. tt } };
 
     ghost laws = { plain_laws };
 
@@ -67,6 +72,10 @@ impl Technology for Plain {
 
     fn touched(old: &ToyPlate, new: &ToyPlate) -> SlotSet {
         Toy::touched(old, new)
+    }
+
+    fn changes(_edit: &Edit, _reply: &EditReply) -> SlotSet {
+        SlotSet::empty()
     }
 
     fn bench() -> ToyBench {
