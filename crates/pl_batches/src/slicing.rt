@@ -7,7 +7,7 @@ ghost use Rattle.pl_batches.specs.Batches.{batches_of};
 
 use crate::layered::{Layered, in_batches};
 use pl_grid::{Plane, Planes};
-use pl_layers::{Heights, layer_count, slice_layer};
+use pl_layers::{Heights, Sweep, layer_count};
 use pl_ports::Probe;
 use pl_stl::Mesh;
 use pl_tech::Ran;
@@ -20,28 +20,34 @@ struct Slicing<'a> {
     mesh: &'a Mesh,
     quarter: u8,
     heights: Heights,
-    ghost turned: { quarter < 4 },
-    ghost high: { AreHeights heights },
 }
 
-impl Layered for Slicing<'_> {
+// The sweep over a mesh, and the slices of the layers that it has left below.
+#[derive(Drop)]
+struct Sliced<'a> {
+    sweep: Sweep<'a>,
+    slices: Vec<Plane>,
+}
+
+impl<'a> Layered for Slicing<'a> {
     ghost use Rattle.pl_layers.specs.Slices.{slice_of};
     ghost use Rattle.pl_steps.specs.Layers.{each};
+    ghost use Rattle.pl_steps.specs.Sweeps.{standing};
 
-    type Made = Vec<Plane>;
+    type Made = Sliced<'a>;
 
     ghost layers = { λ w. layer_count_of w.heights w.mesh.now };
 
-    ghost reaches = { λ w n slices. slices.items ≡ each n (slice_of w.mesh.now w.quarter w.heights) };
+    ghost reaches = { λ w n made. (made.sweep ≡ standing w.mesh.now w.quarter w.heights n) × (made.slices.items ≡ each n (slice_of w.mesh.now w.quarter w.heights)) };
 
     fn put_layer(
         &self,
         alloc: Global,
-        number: u32,
-        slices: &mut Vec<Plane>,
+        _number: u32,
+        made: &mut Sliced<'a>,
     ) -> Result<(), NoMemory> {
-        let slice = slice_layer(alloc, self.mesh, self.quarter, self.heights, number)?;
-        slices.push(slice)?;
+        let slice = made.sweep.next_layer(alloc)?;
+        made.slices.push(slice)?;
         Ok(())
     }
 }
@@ -71,8 +77,12 @@ pub fn slice_batches<P: Probe>(
         quarter,
         heights,
     };
-    match in_batches(alloc, &work, layers, Vec::new(alloc), probe)? {
-        Ran::Done(slices) => Ok(Ran::Done(Planes::of(slices))),
+    let start = Sliced {
+        sweep: Sweep::of(alloc, mesh, quarter, heights)?,
+        slices: Vec::new(alloc),
+    };
+    match in_batches(alloc, &work, layers, start, probe)? {
+        Ran::Done(made) => Ok(Ran::Done(Planes::of(made.slices))),
         Ran::Stopped => Ok(Ran::Stopped),
     }
 }

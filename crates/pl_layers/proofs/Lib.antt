@@ -1,6 +1,11 @@
 pub mod WithinLemmas
 pub mod Samples
 pub mod Extremes
+pub mod Slopes
+pub mod Behind
+pub mod Reaching
+pub mod Marking
 pub mod Spanning
 pub mod Filling
 pub mod Points
+pub mod Sweeping

@@ -73,7 +73,7 @@ height_close h mesh quarter k is are less =
     let sampled : IsSampled h (reach part_z mesh) k = layer_sampled h mesh k is are less in
     sampled_on _ _ (sample h k) z.low z.high z.order sampled.low (subst (λ (n : ℕ). sample h k ≤ℤ pos n) (sym (reach_stays quarter mesh)) sampled.high)
 
-points_of_layer : (h : Heights) (mesh : List Facet) (quarter k : ℕ) → IsMesh mesh → AreHeights h → k < layer_count_of h mesh → ArePoints (corner_of (turned_mesh quarter mesh) h k) (box_of quarter mesh)
+pub points_of_layer : (h : Heights) (mesh : List Facet) (quarter k : ℕ) → IsMesh mesh → AreHeights h → k < layer_count_of h mesh → ArePoints (corner_of (turned_mesh quarter mesh) h k) (box_of quarter mesh)
 points_of_layer h mesh quarter k is are less =
     let x : IsReached part_x (turned_mesh quarter mesh) = reached part_x quarter mesh (λ p near. near.x) is in
     let y : IsReached part_y (turned_mesh quarter mesh) = reached part_y quarter mesh (λ p near. near.y) is in
@@ -95,7 +95,7 @@ wider z h = record { low = omega (arith, ints, h.low); high = omega (arith, ints
 point_close : (p : Point3) → IsNear p → IsClose p
 point_close p h = record { x = wider p.x.0 h.x; y = wider p.y.0 h.y; z = wider p.z.0 h.z }
 
-facet_close : (f : Facet) → IsNearFacet f → IsCloseFacet f
+pub facet_close : (f : Facet) → IsNearFacet f → IsCloseFacet f
 facet_close f h = record { a = point_close f.a h.a; b = point_close f.b h.b; c = point_close f.c h.c }
 
 pub spanning_close : (quarter : ℕ) (facets mesh spanning : List Facet) (z : ℤ) → facets ≡ mesh → IsMesh mesh → spanning ≡ filter (spans z) (turned_mesh quarter facets) → AllClose spanning

@@ -20,7 +20,7 @@ z_is h f t k ef et = ap (λ z. z +ℤ pos k *ℤ h.height.0) ef ∙ ap (λ z. po
 half_of : (f t k : ℕ) → (f + k * t + (f + suc k * t)) / 2 ≡ f + k * t + t / 2
 half_of f t k = omega arith
 
-sample_is : (h : Heights) (f t k : ℕ) → h.first.0 ≡ pos f → h.height.0 ≡ pos t → sample h k ≡ pos (sample_of f t k)
+pub sample_is : (h : Heights) (f t k : ℕ) → h.first.0 ≡ pos f → h.height.0 ≡ pos t → sample h k ≡ pos (sample_of f t k)
 sample_is h f t zero ef et = ap (λ z. int_div_euclid z (pos 2)) (z_is h f t 0 ef et) ∙ omega (arith, ints)
 sample_is h f t (suc k) ef et =
     ap (λ z. int_div_euclid (z +ℤ z_of h (suc k)) (pos 2)) (z_is h f t k ef et)

@@ -22,7 +22,7 @@ none_cross false false true x y z h = absurd (grind arith)
 none_cross false false false x y z h = refl
 
 -- a facet that does not span the height of a point is not hit from it
-hits_none : (p : Point3) (f : Facet) → spans p.z.0 f ≡ false → hits p f ≡ false
+pub hits_none : (p : Point3) (f : Facet) → spans p.z.0 f ≡ false → hits p f ≡ false
 hits_none p f h = ap (λ b. b && is_ahead p f) (none_cross (int_le f.a.z.0 p.z.0) (int_le f.b.z.0 p.z.0) (int_le f.c.z.0 p.z.0) _ _ _ h)
 
 filter_case : {X : Type 0} (p : X → Bool) (q : Bool) (x : X) (xs ys : List X) → (q ≡ false → p x ≡ false) → count_by p ys ≡ count_by p xs → count_by p (cond q (x ∷ ys) ys) ≡ count_by p (x ∷ xs)
@@ -31,7 +31,7 @@ filter_case p false x xs ys h e =
     let none : count_by p xs ≡ cond (p x) 1 0 + count_by p xs = rw (h refl) (omega arith) in
     e ∙ none ∙ sym (sum_by-cons (λ y. cond (p y) 1 0) x xs)
 
-count_by-filter : {X : Type 0} (p q : X → Bool) → ((x : X) → q x ≡ false → p x ≡ false) → (xs : List X) → count_by p (filter q xs) ≡ count_by p xs
+pub count_by-filter : {X : Type 0} (p q : X → Bool) → ((x : X) → q x ≡ false → p x ≡ false) → (xs : List X) → count_by p (filter q xs) ≡ count_by p xs
 count_by-filter p q h [] = refl
 count_by-filter p q h (x ∷ xs) = filter_case p (q x) x xs (filter q xs) (h x) (count_by-filter p q h xs)
 

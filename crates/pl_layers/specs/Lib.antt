@@ -7,3 +7,6 @@ pub mod Hits
 pub mod Near
 pub mod Slices
 pub mod Filling
+pub mod Sweeps
+pub mod Rows
+pub mod Marks

@@ -59,7 +59,7 @@ pub(crate) fn sample(heights: Heights, k: u32) -> Nm
 }
 
 /// How many layers are sampled below this height.
-fn layers_below(first: u64, height: u64, tall: u64) -> u32
+pub(crate) fn layers_below(first: u64, height: u64, tall: u64) -> u32
     requires first_low { 20000 ≤ first }
     requires first_high { first ≤ 1000000 }
     requires low { 20000 ≤ height }
@@ -76,7 +76,7 @@ fn layers_below(first: u64, height: u64, tall: u64) -> u32
 }
 
 /// A length that is not negative.
-fn size_of(length: &Nm) -> u64
+pub(crate) fn size_of(length: &Nm) -> u64
     requires { pos 0 ≤ℤ length.now.0 }
     ensures { length.now.0 ≡ pos result }
 {

@@ -17,7 +17,7 @@ fn difference(from: &Nm, to: &Nm) -> i128
     i128::from(to.0) - i128::from(from.0)
 }
 
-fn arrow(p: &Point3, q: &Point3) -> Arrow
+pub(crate) fn arrow(p: &Point3, q: &Point3) -> Arrow
     requires p { IsClose p.now }
     requires q { IsClose q.now }
     ensures value { result ≡ arrow p.now q.now }
@@ -50,7 +50,7 @@ fn volume(a: &i128, b: &i128) -> i128
     *a * *b
 }
 
-fn cross_x(a: &Arrow, b: &Arrow) -> i128
+pub(crate) fn cross_x(a: &Arrow, b: &Arrow) -> i128
     requires a { IsShort (2 ^ 31) a.now }
     requires b { IsShort (2 ^ 31) b.now }
     ensures value { result ≡ cross_x a.now b.now }
@@ -124,30 +124,7 @@ fn crosses(p: &Point3, u: &Point3, v: &Point3) -> bool
     if u.z.0 < v.z.0 { 0 < side } else { side < 0 }
 }
 
-/// Whether the point lies in the mesh.
-pub(crate) fn is_in_mesh(facets: &[Facet], p: &Point3) -> bool
-    requires p { IsClose p.now }
-    requires facets { AllClose facets.now }
-    ensures { result ≡ is_in_mesh facets.now p.now }
-{
-    let mut inside = false;
-    for facet in facets {
-        if hits(p, facet) {
-            inside = !inside;
-        }
-    }
-    inside
-}
-
-fn hits(p: &Point3, facet: &Facet) -> bool
-    requires p { IsClose p.now }
-    requires facet { IsCloseFacet facet.now }
-    ensures { result ≡ hits p.now facet.now }
-{
-    crosses_oddly(p, facet) && is_ahead(p, facet)
-}
-
-fn crosses_oddly(p: &Point3, facet: &Facet) -> bool
+pub(crate) fn crosses_oddly(p: &Point3, facet: &Facet) -> bool
     requires p { IsClose p.now }
     requires facet { IsCloseFacet facet.now }
     ensures { result ≡ crosses_oddly p.now facet.now }
@@ -155,22 +132,7 @@ fn crosses_oddly(p: &Point3, facet: &Facet) -> bool
     crosses(p, &facet.a, &facet.b) ^ crosses(p, &facet.b, &facet.c) ^ crosses(p, &facet.c, &facet.a)
 }
 
-fn is_ahead(p: &Point3, facet: &Facet) -> bool
-    requires p { IsClose p.now }
-    requires facet { IsCloseFacet facet.now }
-    ensures { result ≡ is_ahead p.now facet.now }
-{
-    let turn = cross_x(&arrow(&facet.a, &facet.b), &arrow(&facet.a, &facet.c));
-    same_sign(determinant(p, facet), turn)
-}
-
-fn same_sign(s: i128, t: i128) -> bool
-    ensures { result ≡ same_sign s t }
-{
-    (0 < s && 0 < t) || (s < 0 && t < 0)
-}
-
-fn determinant(p: &Point3, facet: &Facet) -> i128
+pub(crate) fn determinant(p: &Point3, facet: &Facet) -> i128
     requires p { IsClose p.now }
     requires facet { IsCloseFacet facet.now }
     ensures value { result ≡ determinant (arrow p.now facet.now.a) (arrow p.now facet.now.b) (arrow p.now facet.now.c) }

@@ -1,18 +1,17 @@
 //! The cells of a layer.
-ghost use Rattle.std.specs.Prelude.{◌≡◌, ◌<◌, ◌^◌, ◌+◌, ◌+ℤ◌, ◌*ℤ◌, ◌&&◌, ◌||◌, int_le, ℕ, pos, IfOk};
+ghost use Rattle.std.specs.Prelude.{◌≡◌, ◌<◌, ◌^◌, ◌+◌, ◌+ℤ◌, ◌*ℤ◌, ◌&&◌, ◌||◌, int_le, ℕ, pos, IfOk, length};
 ghost use Rattle.std.specs.List.{filter};
 ghost use Rattle.pl_units.specs.Within.{Within};
 ghost use Rattle.pl_stl.specs.Mesh.{IsMesh};
 ghost use Rattle.pl_grid.specs.Planes.{with_cell};
 ghost use Rattle.pl_layers.specs.Turned.{turned_mesh, box_of};
 ghost use Rattle.pl_layers.specs.Heights.{AreHeights, layer_count_of};
-ghost use Rattle.pl_layers.specs.Hits.{is_in_mesh};
 ghost use Rattle.pl_layers.specs.Near.{IsClose, AllClose};
 ghost use Rattle.pl_layers.specs.Slices.{corner_of, cell_point, inside_of, slice_of};
 ghost use Rattle.pl_layers.specs.Filling.{spans, filled_to};
 
 use crate::heights::{Heights, sample};
-use crate::hits::is_in_mesh;
+use crate::rows::fold_row;
 use crate::turned::{Part, box_over, span_of, turned_facet};
 use pl_grid::{Box2, Plane};
 use pl_stl::{Facet, Mesh, Point3};
@@ -20,7 +19,7 @@ use pl_units::{Nm, NoMemory};
 use std::alloc::Global;
 
 /// The sum of two lengths.
-fn sum(a: &Nm, b: &Nm) -> Nm
+pub(crate) fn sum(a: &Nm, b: &Nm) -> Nm
     requires a { Within (2 ^ 40) a.now.0 }
     requires b { Within (2 ^ 40) b.now.0 }
     ensures { result.0 ≡ a.now.0 +ℤ b.now.0 }
@@ -80,7 +79,7 @@ fn reaches_down(z: &Nm, facet: &Facet) -> bool
 }
 
 /// Whether each corner of the facet is at this height or below.
-fn stays_down(z: &Nm, facet: &Facet) -> bool
+pub(crate) fn stays_down(z: &Nm, facet: &Facet) -> bool
     ensures { result ≡ (int_le facet.now.a.z.0 z.now.0 && int_le facet.now.b.z.0 z.now.0 && int_le facet.now.c.z.0 z.now.0) }
 {
     facet.a.z.0 <= z.0 && facet.b.z.0 <= z.0 && facet.c.z.0 <= z.0
@@ -109,43 +108,61 @@ fn facets_at(alloc: Global, facets: &[Facet], quarter: u8, z: &Nm) -> Result<Vec
     Ok(spanning)
 }
 
-/// Fills the cell at a column and a row if its middle lies in the mesh.
-fn fill_cell(plane: &mut Plane, facets: &[Facet], corner: &Point3, column: u32, row: u32)
+/// The middle of the first cell of a row.
+fn first_point(corner: &Point3, row: u32) -> Point3
+    requires corner { IsClose corner.now }
+    requires row { row < 8192 }
+    ensures { result ≡ cell_point corner.now (pos 0) (pos row) }
+{
+    cell_point(corner, 0, row as i32)
+}
+
+/// Fills or empties the cell at a column and a row.
+fn put_cell(plane: &mut Plane, column: u32, row: u32, inside: bool)
     requires origin_x { plane.old.bounds.x0 ≡ pos 0 }
     requires origin_y { plane.old.bounds.y0 ≡ pos 0 }
     requires column { column < plane.old.bounds.cols }
     requires row { row < plane.old.bounds.rows }
     requires few_columns { column < 8192 }
     requires few_rows { row < 8192 }
-    requires corner { IsClose corner.now }
-    requires point { IsClose (cell_point corner.now (pos column) (pos row)) }
-    requires facets { AllClose facets.now }
-    ensures { plane.new ≡ with_cell plane.old (pos column) (pos row) (is_in_mesh facets.now (cell_point corner.now (pos column) (pos row))) }
+    ensures { plane.new ≡ with_cell plane.old (pos column) (pos row) inside }
 {
-    let x = column as i32;
-    let y = row as i32;
-    let inside = is_in_mesh(facets, &cell_point(corner, x, y));
-    plane.set(x, y, inside);
+    plane.set(column as i32, row as i32, inside);
 }
 
-/// Fills the cells of a row whose middles lie in the mesh.
-fn fill_row(plane: &mut Plane, bounds: Box2, facets: &[Facet], corner: &Point3, row: u32)
+/// Fills the cells of a row whose middles lie in the mesh. `marks` is one longer than the row, and what it holds
+/// before and after does not matter.
+fn fill_row(
+    plane: &mut Plane,
+    marks: &mut [bool],
+    bounds: Box2,
+    facets: &[Facet],
+    corner: &Point3,
+    row: u32,
+)
     requires origin_x { bounds.x0 ≡ pos 0 }
     requires origin_y { bounds.y0 ≡ pos 0 }
     requires row { row < bounds.rows }
+    requires marks { length marks.old ≡ bounds.cols + 1 }
     requires corner { IsClose corner.now }
-    requires points { (i : ℕ) → i < bounds.cols → IsClose (cell_point corner.now (pos i) (pos row)) }
+    requires points { 0 < bounds.cols → IsClose (cell_point corner.now (pos 0) (pos row)) }
     requires facets { AllClose facets.now }
     requires before { plane.old ≡ filled_to bounds facets.now corner.now row 0 }
-    ensures { plane.new ≡ filled_to bounds facets.now corner.now (row + 1) 0 }
+    ensures marks { length marks.new ≡ bounds.cols + 1 }
+    ensures plane { plane.new ≡ filled_to bounds facets.now corner.now (row + 1) 0 }
 {
+    if bounds.cols == 0 {
+        return;
+    }
+    let first = first_point(corner, row);
+    fold_row(marks, facets, &first, bounds.cols as usize);
     for column in 0..bounds.cols {
-        fill_cell(plane, facets, corner, column, row);
+        put_cell(plane, column, row, marks[column as usize + 1]);
     }
 }
 
 /// The cells of a box at 0 0 whose middles lie in the mesh, where `corner` is the middle of the cell 0 0.
-fn slice_facets(
+pub(crate) fn slice_facets(
     alloc: Global,
     bounds: Box2,
     facets: &[Facet],
@@ -159,8 +176,9 @@ fn slice_facets(
     ensures { IfOk result (λ p. p ≡ inside_of bounds facets.now corner.now) }
 {
     let mut plane = Plane::empty(alloc, bounds)?;
+    let mut marks = vec![in alloc; false; bounds.cols as usize + 1]?;
     for row in 0..bounds.rows {
-        fill_row(&mut plane, bounds, facets, corner, row);
+        fill_row(&mut plane, &mut marks, bounds, facets, corner, row);
     }
     Ok(plane)
 }

@@ -2,7 +2,7 @@ ghost use Rattle.std.specs.Prelude.{◌≤◌, ◌^◌};
 ghost use Rattle.pl_units.specs.Within.{Within};
 ghost use Rattle.pl_stl.specs.Mesh.{IsNear, IsNearFacet};
 
-use crate::{Heights, cells, layer_count, layer_height, slice_layer, z_of};
+use crate::{Heights, Sweep, cells, layer_count, layer_height, slice_layer, z_of};
 use pl_stl::{Facet, Mesh, Point3};
 use pl_units::{Nm, NoMemory};
 use std::alloc::Global;
@@ -76,6 +76,28 @@ fn the_small_box_is_filled_at_each_quarter(rt: HostRuntime) -> Result<(), Fail> 
         assert_eq!(rt; (bounds.cols, bounds.rows), (2, 2), "at quarter {quarter}");
         for k in 0..layers {
             let plane = slice_layer(rt.alloc(), &mesh, quarter, heights, k)?;
+            for (x, y) in [(0, 0), (1, 0), (0, 1), (1, 1)] {
+                assert!(rt;
+                    plane.get(x, y),
+                    "cell {x} {y} of layer {k} at quarter {quarter}"
+                );
+            }
+        }
+    }
+    Ok(())
+}
+
+#[test]
+fn a_sweep_gives_each_layer_in_turn(rt: HostRuntime) -> Result<(), Fail> {
+    let mesh = small_box(rt.alloc())?;
+    let heights = Heights {
+        first: Nm(200_000),
+        height: Nm(200_000),
+    };
+    for quarter in 0..4u8 {
+        let mut sweep = Sweep::of(rt.alloc(), &mesh, quarter, heights)?;
+        for k in 0..layer_count(&mesh, heights) {
+            let plane = sweep.next_layer(rt.alloc())?;
             for (x, y) in [(0, 0), (1, 0), (0, 1), (1, 1)] {
                 assert!(rt;
                     plane.get(x, y),

@@ -107,7 +107,7 @@ fn larger(a: &Nm, b: &Nm) -> Nm
 }
 
 /// The least of a number and one coordinate of each corner.
-fn lower(low: &Nm, facet: &Facet, which: Part) -> Nm
+pub(crate) fn lower(low: &Nm, facet: &Facet, which: Part) -> Nm
     requires low { Within (10 ^ 9) low.now.0 }
     requires facet { IsNearFacet facet.now }
     ensures value { result.0 ≡ with_corners int_min (part_of which) facet.now low.now.0 }

@@ -3,3 +3,4 @@ pub mod Beds
 pub mod Boxes
 pub mod Whole
 pub mod Computed
+pub mod Sweeping

@@ -2,3 +2,4 @@ pub mod Options
 pub mod Layers
 pub mod Corners
 pub mod Parts
+pub mod Sweeps

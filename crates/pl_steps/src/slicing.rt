@@ -4,7 +4,7 @@ ghost use Rattle.pl_layers.specs.Heights.{AreHeights};
 ghost use Rattle.pl_steps.specs.Layers.{slices_of};
 
 use pl_grid::Planes;
-use pl_layers::{Heights, layer_count, slice_layer};
+use pl_layers::{Heights, Sweep, layer_count};
 use pl_stl::Mesh;
 use pl_units::NoMemory;
 use std::alloc::Global;
@@ -17,9 +17,10 @@ pub fn slices(alloc: Global, mesh: &Mesh, quarter: u8, heights: Heights) -> Resu
     ensures slices { IfOk result (λ slices. slices ≡ slices_of mesh.now quarter heights) }
     ensures few { IfOk result (λ slices. length slices ≤ 100000) }
 {
+    let mut sweep = Sweep::of(alloc, mesh, quarter, heights)?;
     let mut slices = Vec::new(alloc);
-    for k in 0..layer_count(mesh, heights) {
-        slices.push(slice_layer(alloc, mesh, quarter, heights, k)?)?;
+    for _layer in 0..layer_count(mesh, heights) {
+        slices.push(sweep.next_layer(alloc)?)?;
     }
     Ok(Planes::of(slices))
 }
