@@ -1,0 +1,4 @@
+pub mod Calls
+pub mod Turns
+pub mod Plates
+pub mod InTurn
