@@ -1,0 +1,4 @@
+pub mod Growing
+pub mod Sessions
+pub mod Relays
+pub mod Short
