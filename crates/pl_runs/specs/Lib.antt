@@ -1,0 +1,4 @@
+pub mod Script
+pub mod Went
+pub mod Places
+pub mod Seats
