@@ -7,10 +7,8 @@ use Rattle.std.proofs.lemmas.Bool.{cases_Bool, cond-true, cond-false}
 use Rattle.std.proofs.lemmas.Bool.Decides.{nat_tests}
 use Rattle.std.proofs.lemmas.List.Splits.{slice_split-cons_yes, slice_split-cons_no}
 use Rattle.std.proofs.lemmas.List.Elements.{All-nil, All-cons, All-head, All-tail, All-drop, All-take}
-use Rattle.pl_script.specs.declared.fault.ScriptFault.{ScriptFault}
 use Rattle.pl_script.specs.Outcomes.{and_then, mapped}
 use Rattle.pl_script.specs.Lines.{is_blank, is_letter, is_word, words_of, after_blanks, after_word, trimmed, line_text}
-use Rattle.pl_script.specs.Early.{unless}
 use Rattle.pl_script.specs.Kept.{IsInLine, IsWord}
 
 -- what follows a part that holds
@@ -53,11 +51,6 @@ some_fact P o x e h = subst (λ r. IfSome r P) e h
 
 pub ok_fact : {X E : Type 0} (P : X → Type 0) (said : Result X E) (x : X) → said ≡ Ok x → IfOk said P → P x
 ok_fact P said x e h = subst (λ r. IfOk r P) e h
-
--- where there is no fault
-pub ok_unless : {X : Type 0} (P : X → Type 0) (fault : Option ScriptFault) (said : Result X ScriptFault) → (fault ≡ None → IfOk said P) → IfOk (unless fault said) P
-ok_unless P None said h = h refl
-ok_unless P (Some fault) said h = tt
 
 -- what is found passes the test
 pub found_passes : {X : Type 0} (p : X → Bool) (xs : List X) → IfSome (find p xs) (λ x. p x ≡ true)

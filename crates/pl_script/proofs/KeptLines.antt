@@ -14,11 +14,10 @@ use Rattle.pl_script.specs.declared.fault.ScriptFault.TheVariants.{BadSession, T
 use Rattle.pl_script.specs.Lines.{line_text, line_words, words_of, after_word, is_passed_over}
 use Rattle.pl_script.specs.Forms.{session_of}
 use Rattle.pl_script.specs.Orders.{order_of}
-use Rattle.pl_script.specs.Early.{early_fault}
 use Rattle.pl_script.specs.Script.{at, command_in, command_of, commands_in}
 use Rattle.pl_script.specs.Kept.{IsInLine, IsWord, IsSession, IsLine, AreLines, HasBlock, HaveBlocks}
 use Rattle.pl_script.specs.Reading.{lines_left}
-use Rattle.pl_script.proofs.Keeping.{some_or, some_fact, ok_then, ok_mapped, ok_where, ok_fact, ok_unless, text_in_line, after_word_in_line, are_words, lines_in_line}
+use Rattle.pl_script.proofs.Keeping.{some_or, some_fact, ok_then, ok_mapped, ok_where, ok_fact, text_in_line, after_word_in_line, are_words, lines_in_line}
 use Rattle.pl_script.proofs.KeptOrders.{Keeps, order_keeps, session_range}
 
 -- a command line, and that fewer than 10,000 were before it
@@ -42,7 +41,7 @@ module _ (blocks : List Data) (before number : ℕ) where
       record { is = record { session = some_fact IsSession _ s is_s (session_range word); order = keeps.0 }; block = keeps.1; few = grind (arith, nat_tests, few) })))
 
   pub command_keeps : (text : List ℕ) → IsInLine text → IfOk (command_of blocks before number text) (KeepsLine blocks before)
-  command_keeps text line = ok_unless (KeepsLine blocks before) (early_fault (words_of text)) _ (λ e. command_in_keeps (words_of text) text (are_words text line) line)
+  command_keeps text line = command_in_keeps (words_of text) text (are_words text line) line
 
 -- command lines, after so many others
 pub record KeepLines (blocks : List Data) (before : ℕ) (found : List Line) : Type 0 where

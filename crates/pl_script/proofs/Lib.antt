@@ -1,4 +1,7 @@
 pub mod Parted
+pub mod Courses
+pub mod Rounds
+pub mod Ways
 pub mod FirstWord
 pub mod Wholes
 pub mod Stopped
@@ -10,6 +13,7 @@ pub mod Bodies
 pub mod BlockBodies
 pub mod Steps
 pub mod Resumed
+pub mod Told
+pub mod Sessions
 pub mod Texts
 pub mod OneReading
-pub mod OfFirst

@@ -11,18 +11,18 @@ use Rattle.std.proofs.lemmas.Bool.Decides.{nat_tests}
 use Rattle.std.proofs.lemmas.Grind.{common_steps}
 use Rattle.std.proofs.lemmas.List.Sums.{split_at_first, fails_before_first, passes_at_first}
 use Rattle.pl_edit.specs.Data.{Data}
-use Rattle.pl_script.specs.declared.script.Line.{Line}
 use Rattle.pl_script.specs.declared.fault.ScriptFault.{ScriptFault}
-use Rattle.pl_script.specs.declared.fault.ScriptFault.TheVariants.{NoHead, BadLine, SameData, CutData}
-use Rattle.pl_script.specs.Outcomes.{and_then}
+use Rattle.pl_script.specs.declared.fault.ScriptFault.TheVariants.{NoHead, BadLine, SameData, CutData, Stuck}
+use Rattle.pl_script.specs.Outcomes.{and_then, mapped}
 use Rattle.pl_script.specs.Lines.{line_text, line_words}
 use Rattle.pl_script.specs.Forms.{whole_of}
 use Rattle.pl_script.specs.Orders.{block_named, one_of}
-use Rattle.pl_script.specs.Early.{unless, early_workers}
-use Rattle.pl_script.specs.Script.{Script, Breach, breach, command_of, is_block_end, with_ends, is_data, data_name, body_of, named_block, block_in, workers_number, workers_in, is_head, script_in}
-use Rattle.pl_script.specs.Grammar.{counts, is_workers, is_empty, sets_workers, begins_block, IsBlock, IsOther, IsScriptText, head, passed, workers, block, command, IsFirstBreach, nothing, no_head, bad_workers, bad_block, bad_command}
+use Rattle.pl_script.specs.Rotation.{stuck_line}
+use Rattle.pl_script.specs.Script.{Script, Breach, breach, is_block_end, with_ends, is_data, data_name, body_of, named_block, block_in, workers_number, workers_in, is_head, script_in}
+use Rattle.pl_script.specs.Grammar.{counts, is_workers, is_empty, sets_workers, begins_block, IsBlock, IsOther, IsBeginning, head, passed, workers, block, command, IsScriptText, IsFirstBreach, nothing, no_head, bad_workers, bad_block, bad_command, stuck}
 use Rattle.pl_script.specs.Reading.{Gives}
-use Rattle.pl_script.proofs.Texts.{both_true, script_read, breach_named}
+use Rattle.pl_script.proofs.Told.{IsRead, IsRefused, line_told}
+use Rattle.pl_script.proofs.Texts.{both_true, said_free, said_stuck, script_read, breach_named}
 
 -- the lines are a script's, or have a first breach, as they are read
 abbrev pub Reads : List (List ℕ) → Type 0
@@ -34,18 +34,18 @@ script_reads lines script h = subst (λ said. MatchResult said (IsScriptText lin
 breach_reads : (lines : List (List ℕ)) (number : ℕ) (fault : ScriptFault) → IsFirstBreach lines number fault → Reads lines
 breach_reads lines number fault h = subst (λ said. MatchResult said (IsScriptText lines) (λ b. IsFirstBreach lines b.line b.fault)) (sym (breach_named lines number fault h)) h
 
+said_reads : (lines : List (List ℕ)) (script : Script) → IsBeginning lines script → (told : Option ℕ) → stuck_line script.lines ≡ told → Reads lines
+said_reads lines script h None e = script_reads lines script (record { says = h; free = said_free lines script h e })
+said_reads lines script h (Some number) e = breach_reads lines number Stuck (stuck lines script number h (said_stuck lines script number h e))
+
 -- a line of workers gives a number or a fault
 
 workers_number_some : (words : List (List ℕ)) → workers_number words ≡ Ok None → ⊥
 workers_number_some words e = by (option_and_then (λ word. whole_of 8 word) (one_of words)) e
   where
-    taken : (n : ℕ) (fault : Option ScriptFault) → unless fault (Ok (Some n)) ≡ Ok None → ⊥
-    taken n None e = absurd (cc)
-    taken n (Some fault) e = absurd (cc)
-
-    by : (o : Option ℕ) → and_then (ok_or o BadLine) (λ n. unless (early_workers n) (Ok (Some n))) ≡ Ok None → ⊥
+    by : (o : Option ℕ) → mapped (λ n. Some n) (ok_or o BadLine) ≡ Ok None → ⊥
     by None e = absurd (cc)
-    by (Some n) e = taken n (early_workers n) e
+    by (Some n) e = absurd (cc)
 
 workers_in_some : (words : List (List ℕ)) → is_workers words ≡ true → workers_in words ≡ Ok None → ⊥
 workers_in_some [] w e = absurd (cc)
@@ -118,10 +118,10 @@ block_found blocks first more data_block starts e = by_name (data_name (line_wor
 -- on from lines of a script, where any such lines with so many further ones are read
 
 abbrev pub GoesOn : ℕ → Type 0
-GoesOn most = (before : List (List ℕ)) (script : Script) (rest : List (List ℕ)) → length rest ≤ most → IsScriptText before script → Reads (before ++ rest)
+GoesOn most = (before : List (List ℕ)) (script : Script) (rest : List (List ℕ)) → length rest ≤ most → IsBeginning before script → Reads (before ++ rest)
 
-module _ (most : ℕ) (go_on : GoesOn most) (before : List (List ℕ)) (script : Script) (line : List ℕ) (rest : List (List ℕ)) (fewer : length rest ≤ most) (h : IsScriptText before script) where
-  one_on : (next : Script) → IsScriptText (before ++ line ∷ []) next → Reads (before ++ line ∷ rest)
+module _ (most : ℕ) (go_on : GoesOn most) (before : List (List ℕ)) (script : Script) (line : List ℕ) (rest : List (List ℕ)) (fewer : length rest ≤ most) (h : IsBeginning before script) where
+  one_on : (next : Script) → IsBeginning (before ++ line ∷ []) next → Reads (before ++ line ∷ rest)
   one_on next is = subst Reads (append_assoc before (line ∷ []) rest) (go_on (before ++ line ∷ []) next rest fewer is)
 
   by_workers : sets_workers before (line_words line) ≡ true → (said : Result (Option ℕ) ScriptFault) → workers_in (line_words line) ≡ said → Reads (before ++ line ∷ rest)
@@ -137,9 +137,9 @@ module _ (most : ℕ) (go_on : GoesOn most) (before : List (List ℕ)) (script :
       (go_on (before ++ found.part) _ found.rest (omega (arith, found.shorter, fewer)) (block before script found.part data_block h t.0 found.is found.new))
   by_block begins (Err fault) e = breach_reads (before ++ line ∷ rest) (length before + 1) fault (bad_block before script line rest fault h begins e)
 
-  by_command : IsOther before script line → (said : Result Line ScriptFault) → command_of script.blocks (length script.lines) (length before + 1) (line_text line) ≡ said → Reads (before ++ line ∷ rest)
-  by_command other (Ok c) e = one_on _ (command before script line c h other e)
-  by_command other (Err fault) e = breach_reads (before ++ line ∷ rest) (length before + 1) fault (bad_command before script line rest fault h other e)
+  by_command : IsOther before script line → IsRead script.blocks (length script.lines) (length before + 1) (line_text line) ⊎ IsRefused script.blocks (length script.lines) (length before + 1) (line_text line) → Reads (before ++ line ∷ rest)
+  by_command other (inl r) = one_on _ (command before script line r.session r.order h other r.is r.few)
+  by_command other (inr r) = breach_reads (before ++ line ∷ rest) (length before + 1) r.fault (bad_command before script line rest r.fault h other r.is)
 
   pub line_reads : Reads (before ++ line ∷ rest)
   line_reads =
@@ -148,14 +148,14 @@ module _ (most : ℕ) (go_on : GoesOn most) (before : List (List ℕ)) (script :
           | inl sets ↦ by_workers sets (workers_in (line_words line)) refl
           | inr no_workers ↦ elim (cases_Bool (begins_block script (line_words line))) [
             | inl begins ↦ by_block begins (block_in script.blocks (line_words line) rest) refl
-            | inr no_block ↦ by_command (record { counts_too = here; no_workers = no_workers; no_block = no_block }) (command_of script.blocks (length script.lines) (length before + 1) (line_text line)) refl
+            | inr no_block ↦ by_command (record { counts_too = here; no_workers = no_workers; no_block = no_block }) (line_told script.blocks (length script.lines) (length before + 1) (line_text line))
           ]
         ]
         | inr over ↦ one_on script (passed before script line h over)
       ]
 
 pub reads_on : (most : ℕ) → GoesOn most
-reads_on most before script [] le h = subst Reads (sym (append-nil before)) (script_reads before script h)
+reads_on most before script [] le h = subst Reads (sym (append-nil before)) (said_reads before script h (stuck_line script.lines) refl)
 reads_on zero before script (line ∷ rest) le h = absurd (omega (arith, le))
 reads_on (suc most) before script (line ∷ rest) le h = line_reads most (reads_on most) before script line rest (omega (arith, le)) h
 

@@ -12,10 +12,16 @@ use Rattle.pl_script.specs.declared.script.Line.{Line}
 use Rattle.pl_script.specs.declared.fault.ScriptFault.{ScriptFault}
 use Rattle.pl_script.specs.declared.fault.ScriptFault.TheVariants.{SameData, CutData}
 use Rattle.pl_script.specs.Outcomes.{and_then}
-use Rattle.pl_script.specs.Lines.{line_words, is_passed_over, begins_comment}
+use Rattle.pl_script.specs.Lines.{line_text, line_words, is_passed_over, begins_comment}
 use Rattle.pl_script.specs.Orders.{block_named}
-use Rattle.pl_script.specs.Script.{Script, breach, is_block_end, with_ends, is_data, body_of, named_block, block_in, with_workers, is_head, script_in}
-use Rattle.pl_script.specs.Grammar.{counts, is_workers, is_empty, sets_workers, IsBlock, IsScriptText, head, passed, workers, block, command, IsFirstBreach, nothing, no_head, bad_workers, bad_block, bad_command}
+use Rattle.pl_script.specs.Script.{Script, breach, is_block_end, with_ends, is_data, body_of, named_block, block_in, with_workers, is_head, beginning_in, unless_at, unless_stuck, script_in}
+use Rattle.pl_script.specs.Stuck.{IsFree, IsStuckAt}
+use Rattle.pl_script.specs.Rotation.{stuck_line}
+use Rattle.pl_script.specs.Grammar.{counts, is_workers, is_empty, sets_workers, IsBlock, IsBeginning, head, passed, workers, block, command, IsFirstBreach, nothing, no_head, bad_workers, bad_block, bad_command, stuck, IsScriptText}
+use Rattle.pl_script.proofs.Courses.{Tells}
+use Rattle.pl_script.proofs.Rounds.{line_tells}
+use Rattle.pl_script.proofs.Sessions.{said_sessions}
+use Rattle.pl_script.proofs.Told.{command_read, fault_read}
 use Rattle.pl_script.proofs.BlockBodies.{first_end, take_body, drop_body}
 use Rattle.pl_script.proofs.Resumed.{behind, resume, resume_passed, resume_workers, resume_bad_workers, resume_other, data_counts, workers_count, behind_block_read, behind_bad_block, behind_command, behind_bad_command}
 
@@ -70,7 +76,7 @@ workers_line_counts before line e = ap not (workers_count (line_words line) (bot
 pub data_line_counts : (line : List ℕ) → is_data (line_words line) ≡ true → counts line ≡ true
 data_line_counts line e = ap not (data_counts (line_words line) e)
 
-pub starts : (lines : List (List ℕ)) (script : Script) → IsScriptText lines script → Starts lines script
+pub starts : (lines : List (List ℕ)) (script : Script) → IsBeginning lines script → Starts lines script
 starts _ _ (head line h) =
     let one = counted_one line [] (ap not (head_counts (line_words line) h)) in
     (omega (arith, one), λ e. (refl, refl, refl))
@@ -79,7 +85,7 @@ starts _ _ (workers before script line number h sets is) = starts_more before li
 starts _ _ (block before script part data_block h none is new) =
     let After : Script = record { workers = script.workers; blocks = script.blocks ++ data_block ∷ []; lines = script.lines } in
     subst (λ p. Starts (before ++ p) After) (sym is.all) (starts_more before is.first (is.body ++ is.last ∷ []) After (starts before script h).0 (data_line_counts is.first is.data_line))
-starts _ _ (command before script line c h other is) = starts_more before line [] _ (starts before script h).0 other.counts_too
+starts _ _ (command before script line session order h other is few) = starts_more before line [] _ (starts before script h).0 other.counts_too
 
 -- where the lines go on
 
@@ -140,12 +146,12 @@ part_first before part data_block is rest =
     ∙ ap (λ p. before ++ (p ++ rest)) is.all
     ∙ ap (λ p. before ++ (is.first ∷ p)) (append_assoc is.body (is.last ∷ []) rest)
 
-pub resumed : (lines : List (List ℕ)) (script : Script) → IsScriptText lines script → (rest : List (List ℕ)) → script_in (lines ++ rest) ≡ resume (count_by counts lines == 1) (length lines + 1) script rest
+pub resumed : (lines : List (List ℕ)) (script : Script) → IsBeginning lines script → (rest : List (List ℕ)) → beginning_in (lines ++ rest) ≡ resume (count_by counts lines == 1) (length lines + 1) script rest
 resumed _ _ (head line h) rest =
     let one : (count_by counts (line ∷ []) == 1) ≡ true = ap (λ n. n == 1) (counted_one line [] (ap not (head_counts (line_words line) h))) in
     cond-true (is_head (line_words line)) _ _ h ∙ ap (λ b. resume b 2 (record { workers = 0; blocks = []; lines = [] }) rest) (sym one)
 resumed _ _ (passed before script line h e) rest =
-    ap script_in (append_assoc before (line ∷ []) rest)
+    ap beginning_in (append_assoc before (line ∷ []) rest)
     ∙ resumed before script h (line ∷ rest)
     ∙ resume_passed (count_by counts before == 1) (length before + 1) script line rest e
     ∙ same_resume script rest _ _ _ _ (ap (λ n. n == 1) (sym (uncounted before line e))) (sym (longer before line))
@@ -153,7 +159,7 @@ resumed _ _ (workers before script line number h sets is) rest =
     let t = both_true (count_by counts before == 1) (is_workers (line_words line)) sets in
     let s = starts before script h in
     let c = workers_line_counts before line sets in
-    ap script_in (append_assoc before (line ∷ []) rest)
+    ap beginning_in (append_assoc before (line ∷ []) rest)
     ∙ resumed before script h (line ∷ rest)
     ∙ ap (λ b. resume b (length before + 1) script (line ∷ rest)) t.0
     ∙ resume_workers (length before + 1) script line rest number c is (s.1 t.0).1 (s.1 t.0).2
@@ -161,16 +167,18 @@ resumed _ _ (workers before script line number h sets is) rest =
 resumed _ _ (block before script part data_block h none is new) rest =
     let s = starts before script h in
     let two : 2 ≤ count_by counts (before ++ part) = subst (λ p. 2 ≤ count_by counts (before ++ p)) (sym is.all) (more_count before is.first (is.body ++ is.last ∷ []) s.0 (data_line_counts is.first is.data_line)) in
-    ap script_in (part_first before part data_block is rest)
+    ap beginning_in (part_first before part data_block is rest)
     ∙ resumed before script h (is.first ∷ (is.body ++ is.last ∷ rest))
     ∙ resume_block (count_by counts before == 1) (length before + 1) script part data_block is rest s.1 none new
     ∙ same_resume _ rest _ _ _ _ (sym (not_one _ two)) (omega (arith, length-append before part))
-resumed _ _ (command before script line c h other is) rest =
+resumed _ _ (command before script line session order h other is few) rest =
+    let c : Line = record { number = length before + 1; session = session; command = order } in
+    let read = command_read script.blocks (length script.lines) (length before + 1) (line_text line) session order is few in
     let s = starts before script h in
-    ap script_in (append_assoc before (line ∷ []) rest)
+    ap beginning_in (append_assoc before (line ∷ []) rest)
     ∙ resumed before script h (line ∷ rest)
     ∙ resume_other (count_by counts before == 1) (length before + 1) script line rest other.counts_too other.no_workers s.1
-    ∙ ap (with_workers script.workers) (behind_command (length before + 1) script.blocks script.lines line rest c other.counts_too other.no_block is)
+    ∙ ap (with_workers script.workers) (behind_command (length before + 1) script.blocks script.lines line rest c other.counts_too other.no_block read)
     ∙ same_resume _ rest _ _ _ _ (sym (not_one _ (more_count before line [] s.0 other.counts_too))) (sym (longer before line))
 
 behind_end : (number : ℕ) (blocks : List Data) (lines : List Line) → behind number blocks lines [] ≡ Ok (blocks, lines)
@@ -184,26 +192,43 @@ resume_end true number script bare =
 resume_end false number script bare = ap (with_workers script.workers) (behind_end number script.blocks script.lines)
 
 -- the lines of a script are read
+pub beginning_read : (lines : List (List ℕ)) (script : Script) → IsBeginning lines script → beginning_in lines ≡ Ok script
+beginning_read lines script h =
+    ap beginning_in (sym (append-nil lines)) ∙ resumed lines script h [] ∙ resume_end (count_by counts lines == 1) (length lines + 1) script (starts lines script h).1
+
+-- where its sessions don't wait for one another, it is a script
+stuck_told : (lines : List (List ℕ)) (script : Script) → IsBeginning lines script → Tells script.lines (stuck_line script.lines)
+stuck_told lines script h = line_tells script.lines (said_sessions lines script h)
+
+pub said_free : (lines : List (List ℕ)) (script : Script) → IsBeginning lines script → stuck_line script.lines ≡ None → IsFree script.lines
+said_free lines script h e = (stuck_told lines script h).free.0 e
+
+pub said_stuck : (lines : List (List ℕ)) (script : Script) (number : ℕ) → IsBeginning lines script → stuck_line script.lines ≡ Some number → IsStuckAt script.lines number
+said_stuck lines script number h e = ((stuck_told lines script h).stuck number).0 e
+
 pub script_read : (lines : List (List ℕ)) (script : Script) → IsScriptText lines script → script_in lines ≡ Ok script
-script_read lines script h =
-    ap script_in (sym (append-nil lines)) ∙ resumed lines script h [] ∙ resume_end (count_by counts lines == 1) (length lines + 1) script (starts lines script h).1
+script_read lines script h = ap unless_stuck (beginning_read lines script h.says) ∙ ap (λ o. unless_at o script) ((stuck_told lines script h.says).free.1 h.free)
 
 -- a first breach is named
 pub breach_named : (lines : List (List ℕ)) (number : ℕ) (fault : ScriptFault) → IsFirstBreach lines number fault → script_in lines ≡ breach number fault
 breach_named _ _ _ nothing = refl
-breach_named _ _ _ (no_head line rest e) = cond-false (is_head (line_words line)) _ _ e
+breach_named _ _ _ (no_head line rest e) = ap unless_stuck (cond-false (is_head (line_words line)) _ _ e)
+breach_named _ _ _ (stuck lines script number h is) = ap unless_stuck (beginning_read lines script h) ∙ ap (λ o. unless_at o script) (((stuck_told lines script h).stuck number).1 is)
 breach_named _ _ _ (bad_workers before script line rest fault h sets is) =
     let t = both_true (count_by counts before == 1) (is_workers (line_words line)) sets in
-    resumed before script h (line ∷ rest)
+    ap unless_stuck
+    (resumed before script h (line ∷ rest)
     ∙ ap (λ b. resume b (length before + 1) script (line ∷ rest)) t.0
-    ∙ resume_bad_workers (length before + 1) script line rest fault (workers_line_counts before line sets) is
+    ∙ resume_bad_workers (length before + 1) script line rest fault (workers_line_counts before line sets) is)
 breach_named _ _ _ (bad_block before script line rest fault h begins is) =
     let t = both_true (is_empty script.lines) (is_data (line_words line)) begins in
-    resumed before script h (line ∷ rest)
+    ap unless_stuck
+    (resumed before script h (line ∷ rest)
     ∙ resume_other (count_by counts before == 1) (length before + 1) script line rest (data_line_counts line t.1) (and_false (count_by counts before == 1) (is_workers (line_words line)) (apart_words (line_words line) t.1)) (starts before script h).1
     ∙ ap (λ ls. with_workers script.workers (behind (length before + 1) script.blocks ls (line ∷ rest))) (empty_is script.lines t.0)
-    ∙ ap (with_workers script.workers) (behind_bad_block (length before + 1) script.blocks line rest fault t.1 is)
+    ∙ ap (with_workers script.workers) (behind_bad_block (length before + 1) script.blocks line rest fault t.1 is))
 breach_named _ _ _ (bad_command before script line rest fault h other is) =
-    resumed before script h (line ∷ rest)
+    ap unless_stuck
+    (resumed before script h (line ∷ rest)
     ∙ resume_other (count_by counts before == 1) (length before + 1) script line rest other.counts_too other.no_workers (starts before script h).1
-    ∙ ap (with_workers script.workers) (behind_bad_command (length before + 1) script.blocks script.lines line rest fault other.counts_too other.no_block is)
+    ∙ ap (with_workers script.workers) (behind_bad_command (length before + 1) script.blocks script.lines line rest fault other.counts_too other.no_block (fault_read script.blocks (length script.lines) (length before + 1) (line_text line) fault is)))

@@ -1,13 +1,15 @@
 -- Script texts line by line, and the first breach of any other text.
-use Rattle.std.specs.Prelude.{◌≡◌, ℕ, ◌+◌, ◌==◌, ◌&&◌, Bool, true, false, not, Some, None, Ok, Err, List, [], ◌∷◌, ◌++◌, length, count_by, All, codes}
+use Rattle.std.specs.Prelude.{◌≡◌, ℕ, ◌+◌, ◌<◌, ◌==◌, ◌&&◌, Bool, true, false, not, Some, None, Ok, Err, List, [], ◌∷◌, ◌++◌, length, count_by, All, codes}
 use Rattle.std.specs.Str.{bytes_eq}
 use Rattle.pl_edit.specs.Data.{Data}
 use Rattle.pl_script.specs.declared.script.Line.{Line}
 use Rattle.pl_script.specs.declared.fault.ScriptFault.{ScriptFault}
-use Rattle.pl_script.specs.declared.fault.ScriptFault.TheVariants.{NoHead}
+use Rattle.pl_script.specs.declared.fault.ScriptFault.TheVariants.{NoHead, Stuck}
 use Rattle.pl_script.specs.Lines.{line_text, line_words, is_passed_over}
-use Rattle.pl_script.specs.Orders.{block_named}
-use Rattle.pl_script.specs.Script.{Script, is_head, is_data, data_name, is_block_end, with_ends, block_in, workers_in, command_of}
+use Rattle.pl_script.specs.Orders.{Order, block_named}
+use Rattle.pl_script.specs.Stuck.{IsFree, IsStuckAt}
+use Rattle.pl_script.specs.Script.{Script, is_head, is_data, data_name, is_block_end, with_ends, block_in, workers_in}
+use Rattle.pl_script.specs.Commands.{IsCommandLine, IsLineFault}
 
 -- a line that is not passed over
 abbrev pub counts : List ℕ → Bool
@@ -47,31 +49,42 @@ pub record IsOther (before : List (List ℕ)) (script : Script) (line : List ℕ
   pub no_workers : sets_workers before (line_words line) ≡ false
   pub no_block : begins_block script (line_words line) ≡ false
 
--- The lines are those of a script. A line that is passed over changes nothing.
-pub data IsScriptText : List (List ℕ) → Script → Type 0 where
-  head : (line : List ℕ) → is_head (line_words line) ≡ true → IsScriptText (line ∷ []) (record { workers = 0; blocks = []; lines = [] })
-  passed : (before : List (List ℕ)) (script : Script) (line : List ℕ) → IsScriptText before script → counts line ≡ false → IsScriptText (before ++ line ∷ []) script
+-- a script with one more command line
+abbrev pub with_line : Script → Line → Script
+with_line script line = record { workers = script.workers; blocks = script.blocks; lines = script.lines ++ line ∷ [] }
+
+-- The lines begin a script: all that they say is so far these workers, blocks and command lines. A line that is passed over changes
+-- nothing.
+pub data IsBeginning : List (List ℕ) → Script → Type 0 where
+  head : (line : List ℕ) → is_head (line_words line) ≡ true → IsBeginning (line ∷ []) (record { workers = 0; blocks = []; lines = [] })
+  passed : (before : List (List ℕ)) (script : Script) (line : List ℕ) → IsBeginning before script → counts line ≡ false → IsBeginning (before ++ line ∷ []) script
   workers : (before : List (List ℕ)) (script : Script) (line : List ℕ) (number : ℕ)
-      → IsScriptText before script → sets_workers before (line_words line) ≡ true → workers_in (line_words line) ≡ Ok (Some number)
-      → IsScriptText (before ++ line ∷ []) (record { workers = number; blocks = script.blocks; lines = script.lines })
+      → IsBeginning before script → sets_workers before (line_words line) ≡ true → workers_in (line_words line) ≡ Ok (Some number)
+      → IsBeginning (before ++ line ∷ []) (record { workers = number; blocks = script.blocks; lines = script.lines })
   block : (before : List (List ℕ)) (script : Script) (part : List (List ℕ)) (block : Data)
-      → IsScriptText before script → is_empty script.lines ≡ true → IsBlock part block → block_named script.blocks block.name ≡ None
-      → IsScriptText (before ++ part) (record { workers = script.workers; blocks = script.blocks ++ block ∷ []; lines = script.lines })
-  command : (before : List (List ℕ)) (script : Script) (line : List ℕ) (command : Line)
-      → IsScriptText before script → IsOther before script line → command_of script.blocks (length script.lines) (length before + 1) (line_text line) ≡ Ok command
-      → IsScriptText (before ++ line ∷ []) (record { workers = script.workers; blocks = script.blocks; lines = script.lines ++ command ∷ [] })
+      → IsBeginning before script → is_empty script.lines ≡ true → IsBlock part block → block_named script.blocks block.name ≡ None
+      → IsBeginning (before ++ part) (record { workers = script.workers; blocks = script.blocks ++ block ∷ []; lines = script.lines })
+  command : (before : List (List ℕ)) (script : Script) (line : List ℕ) (session : ℕ) (order : Order)
+      → IsBeginning before script → IsOther before script line → IsCommandLine script.blocks (line_text line) session order → length script.lines < 10000
+      → IsBeginning (before ++ line ∷ []) (with_line script (record { number = length before + 1; session = session; command = order }))
+
+-- the lines are those of a script: all its commands have an order in which they can come
+pub record IsScriptText (lines : List (List ℕ)) (script : Script) : Type 0 where
+  pub says : IsBeginning lines script
+  pub free : IsFree script.lines
 
 -- The lines are no script's, and the first breach is this fault at the line of this number, counted from 1: the lines before
--- it are those of a script, and the line, with those after it, does not go on.
+-- it begin a script, and the line, with those after it, does not go on; or else all lines say a script that is stuck there.
 pub data IsFirstBreach : List (List ℕ) → ℕ → ScriptFault → Type 0 where
   nothing : IsFirstBreach [] 1 NoHead
   no_head : (line : List ℕ) (rest : List (List ℕ)) → is_head (line_words line) ≡ false → IsFirstBreach (line ∷ rest) 1 NoHead
   bad_workers : (before : List (List ℕ)) (script : Script) (line : List ℕ) (rest : List (List ℕ)) (fault : ScriptFault)
-      → IsScriptText before script → sets_workers before (line_words line) ≡ true → workers_in (line_words line) ≡ Err fault
+      → IsBeginning before script → sets_workers before (line_words line) ≡ true → workers_in (line_words line) ≡ Err fault
       → IsFirstBreach (before ++ line ∷ rest) (length before + 1) fault
   bad_block : (before : List (List ℕ)) (script : Script) (line : List ℕ) (rest : List (List ℕ)) (fault : ScriptFault)
-      → IsScriptText before script → begins_block script (line_words line) ≡ true → block_in script.blocks (line_words line) rest ≡ Err fault
+      → IsBeginning before script → begins_block script (line_words line) ≡ true → block_in script.blocks (line_words line) rest ≡ Err fault
       → IsFirstBreach (before ++ line ∷ rest) (length before + 1) fault
   bad_command : (before : List (List ℕ)) (script : Script) (line : List ℕ) (rest : List (List ℕ)) (fault : ScriptFault)
-      → IsScriptText before script → IsOther before script line → command_of script.blocks (length script.lines) (length before + 1) (line_text line) ≡ Err fault
+      → IsBeginning before script → IsOther before script line → IsLineFault script.blocks (length script.lines) (line_text line) fault
       → IsFirstBreach (before ++ line ∷ rest) (length before + 1) fault
+  stuck : (lines : List (List ℕ)) (script : Script) (number : ℕ) → IsBeginning lines script → IsStuckAt script.lines number → IsFirstBreach lines number Stuck

@@ -2,8 +2,10 @@ pub mod Outcomes
 pub mod Lines
 pub mod Forms
 pub mod Orders
-pub mod Early
+pub mod Stuck
+pub mod Rotation
 pub mod Script
 pub mod Kept
 pub mod Reading
+pub mod Commands
 pub mod Grammar

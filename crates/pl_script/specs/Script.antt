@@ -6,12 +6,12 @@ use Rattle.std.specs.Str.{bytes_eq}
 use Rattle.pl_edit.specs.Data.{Data}
 use Rattle.pl_script.specs.declared.script.Line.{Line}
 use Rattle.pl_script.specs.declared.fault.ScriptFault.{ScriptFault}
-use Rattle.pl_script.specs.declared.fault.ScriptFault.TheVariants.{NoHead, BadLine, BadSession, SameData, CutData, TooMany}
+use Rattle.pl_script.specs.declared.fault.ScriptFault.TheVariants.{NoHead, BadLine, BadSession, SameData, CutData, TooMany, Stuck}
 use Rattle.pl_script.specs.Outcomes.{and_then, mapped}
 use Rattle.pl_script.specs.Lines.{lines_of, line_text, words_of, line_words, after_word, is_passed_over}
 use Rattle.pl_script.specs.Forms.{is_name, whole_of, session_of}
 use Rattle.pl_script.specs.Orders.{one_of, two_of, block_named, order_of}
-use Rattle.pl_script.specs.Early.{unless, early_fault, early_workers}
+use Rattle.pl_script.specs.Rotation.{stuck_line}
 
 -- what a text says: the number of workers, the blocks in order, and the command lines in order
 pub record Script : Type 0 where
@@ -43,7 +43,7 @@ command_in blocks before number (word ∷ words) text =
     option_map_or (λ s. and_then (order_of blocks words (after_word text)) (λ o. counted before (record { number = number; session = s; command = o }))) (session_of word) (Err BadSession)
 
 abbrev pub command_of : List Data → ℕ → ℕ → List ℕ → Result Line ScriptFault
-command_of blocks before number text = unless (early_fault (words_of text)) (command_in blocks before number (words_of text) text)
+command_of blocks before number text = command_in blocks before number (words_of text) text
 
 -- the command lines from the line of a number on, after so many others
 abbrev pub commands_in : List Data → ℕ → ℕ → List (List ℕ) → Result (List Line) Breach
@@ -103,7 +103,7 @@ with_workers workers body = mapped (λ found. record { workers = workers; blocks
 
 -- the number in the words of a line after the word `workers`
 abbrev pub workers_number : List (List ℕ) → Result (Option ℕ) ScriptFault
-workers_number words = and_then (ok_or (option_and_then (λ word. whole_of 8 word) (one_of words)) BadLine) (λ n. unless (early_workers n) (Ok (Some n)))
+workers_number words = mapped (λ n. Some n) (ok_or (option_and_then (λ word. whole_of 8 word) (one_of words)) BadLine)
 
 -- the number of workers in a line's words, or that they are those of another line
 abbrev pub workers_in : List (List ℕ) → Result (Option ℕ) ScriptFault
@@ -129,9 +129,21 @@ is_version (Some w) = bytes_eq w.0 (codes "plater") && bytes_eq w.1 (codes "1")
 abbrev pub is_head : List (List ℕ) → Bool
 is_head words = is_version (two_of words)
 
+-- the script in all lines, before it is looked whether its sessions wait for one another
+abbrev pub beginning_in : List (List ℕ) → Result Script Breach
+beginning_in [] = breach 1 NoHead
+beginning_in (head ∷ lines) = if is_head (line_words head) then after_head 2 lines else breach 1 NoHead
+
+abbrev pub unless_at : Option ℕ → Script → Result Script Breach
+unless_at None script = Ok script
+unless_at (Some number) script = breach number Stuck
+
+-- a script, unless it is stuck
+abbrev pub unless_stuck : Result Script Breach → Result Script Breach
+unless_stuck said = and_then said (λ script. unless_at (stuck_line script.lines) script)
+
 abbrev pub script_in : List (List ℕ) → Result Script Breach
-script_in [] = breach 1 NoHead
-script_in (head ∷ lines) = if is_head (line_words head) then after_head 2 lines else breach 1 NoHead
+script_in lines = unless_stuck (beginning_in lines)
 
 -- the script of a text, or its first breach
 abbrev pub script_of : List ℕ → Result Script Breach

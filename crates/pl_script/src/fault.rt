@@ -8,15 +8,13 @@ pub enum ScriptFault {
     /// The first line of all is not `plater 1`.
     #[error("NoHead")]
     NoHead,
-    /// A workers line, a data line or a command has another number of words or words of another form; a number of workers
-    /// above 0 is not taken yet.
+    /// A workers line, a data line or a command has another number of words or words of another form.
     #[error("BadLine")]
     BadLine,
-    /// The second word of a command line is no command, or there is none; `after` is not taken yet.
+    /// The second word of a command line is no command, or there is none.
     #[error("UnknownCommand")]
     UnknownCommand,
-    /// The first word of a command line, or the session that `after` names, is no whole number from 1 to 16; no session but
-    /// the first is taken yet.
+    /// The first word of a command line, or the session that `after` names, is no whole number from 1 to 16.
     #[error("BadSession")]
     BadSession,
     /// A command names a block that does not exist.
@@ -31,7 +29,8 @@ pub enum ScriptFault {
     /// The 10,001st command.
     #[error("TooMany")]
     TooMany,
-    /// The sessions wait for one another. `read_script` never gives it.
+    /// The sessions wait for one another: no order of all commands keeps each session's order and puts each `after` behind the
+    /// commands that it waits for.
     #[error("Stuck")]
     Stuck,
     /// The text has more than 2^28 bytes. `read_script` never gives it: the caller that reads the bytes does.

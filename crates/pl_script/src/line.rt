@@ -5,14 +5,13 @@ ghost use Rattle.pl_script.specs.declared.fault.ScriptFault.TheVariants as fault
 ghost use Rattle.pl_script.specs.Lines.{words_of, after_word};
 ghost use Rattle.pl_script.specs.Forms.{session_of};
 ghost use Rattle.pl_script.specs.Orders.{one_of, two_of, three_of, four_of, first_of, first_two_of, alone, delete_in, copy_in, move_in, drop_in, turn_in, set_in, override_in, unset_in, block_of, load_in, reload_in, ini_in, after_in, order_in, order_of};
-ghost use Rattle.pl_script.specs.Script.{command_in, command_of};
+ghost use Rattle.pl_script.specs.Script.{command_of};
 ghost use Rattle.pl_script.specs.Reading.{Answers};
 
-use crate::early::early_fault;
 use crate::fault::{LineStop, ScriptFault};
 use crate::forms::is_name;
 use crate::numbers::{byte_of, is_whole, nm_of, session_of, small_of, whole_of};
-use crate::script::{Blocks, Line};
+use crate::script::{Blocks, Line, SharedCommand};
 use crate::verb::{Verb, verb_of};
 use crate::words::{
     first_two_words, four_words, next_word, one_word, three_words, trimmed, two_words,
@@ -21,6 +20,7 @@ use pl_edit::{Block, Edit, ValueText};
 use pl_machine::Command;
 use pl_units::{Shared, Text};
 use std::alloc::Global;
+use std::sync::Arc;
 
 // The most commands of a script.
 const MOST_COMMANDS: usize = 10_000;
@@ -259,34 +259,6 @@ fn order_of(alloc: Global, blocks: &Blocks, text: &[u8]) -> Result<Command<Edit>
     }
 }
 
-// The command line of a number, after so many others and after these blocks, but for what is not taken yet.
-fn command_in(
-    alloc: Global,
-    blocks: &Blocks,
-    before: usize,
-    number: u32,
-    text: &[u8],
-) -> Result<Line, LineStop>
-    requires { length text.now ≤ 2 ^ 28 }
-    ensures { Answers result (command_in blocks.now before number (words_of text.now) text.now) }
-{
-    let Some((word, rest)) = next_word(text) else {
-        return Err(LineStop::Fault(ScriptFault::BadSession));
-    };
-    let Some(session) = session_of(word) else {
-        return Err(LineStop::Fault(ScriptFault::BadSession));
-    };
-    let command = order_of(alloc, blocks, rest)?;
-    if before >= MOST_COMMANDS {
-        return Err(LineStop::Fault(ScriptFault::TooMany));
-    }
-    Ok(Line {
-        number,
-        session,
-        command,
-    })
-}
-
 // The command line of a number, after so many others and after these blocks.
 pub(crate) fn command_of(
     alloc: Global,
@@ -298,8 +270,22 @@ pub(crate) fn command_of(
     requires { length text.now ≤ 2 ^ 28 }
     ensures { Answers result (command_of blocks.now before number text.now) }
 {
-    match early_fault(text) {
-        Some(fault) => Err(LineStop::Fault(fault)),
-        None => command_in(alloc, blocks, before, number, text),
+    let Some((word, rest)) = next_word(text) else {
+        return Err(LineStop::Fault(ScriptFault::BadSession));
+    };
+    let Some(session) = session_of(word) else {
+        return Err(LineStop::Fault(ScriptFault::BadSession));
+    };
+    let command = order_of(alloc, blocks, rest)?;
+    if before >= MOST_COMMANDS {
+        return Err(LineStop::Fault(ScriptFault::TooMany));
     }
+    let Ok(command) = Arc::new(alloc, command) else {
+        return Err(LineStop::NoMemory);
+    };
+    Ok(Line {
+        number,
+        session,
+        command: SharedCommand::of(command),
+    })
 }

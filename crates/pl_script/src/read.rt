@@ -8,18 +8,18 @@ ghost use Rattle.pl_script.specs.declared.fault.ScriptFault.{ScriptFault as Faul
 ghost use Rattle.pl_script.specs.Lines.{lines_of, words_of, line_words};
 ghost use Rattle.pl_script.specs.Orders.{block_named};
 ghost use Rattle.pl_script.specs.Grammar.{IsScriptText, IsFirstBreach};
-ghost use Rattle.pl_script.specs.Script.{Script as Said, at, script_in, script_of, after_head, at_workers, body_in, commands_in, with_workers, workers_in, is_head, is_data, data_name, block_after, block_in, body_of, with_ends, is_block_end};
+ghost use Rattle.pl_script.specs.Script.{Script as Said, at, beginning_in, script_in, script_of, after_head, at_workers, body_in, commands_in, with_workers, workers_in, is_head, is_data, data_name, block_after, block_in, body_of, with_ends, is_block_end};
 ghost use Rattle.pl_script.specs.Forms.{is_name};
 ghost use Rattle.pl_script.specs.Kept.{HaveBlocks};
 ghost use Rattle.pl_script.specs.Reading.{lines_left, size_left, number_left, HasRoom, IsAfterBlock, IsTaken, IsOther, Answers, Stops, Refuses, Gives};
 
-use crate::early::early_workers;
 use crate::fault::{LineStop, ScriptFault};
 use crate::forms::is_name;
 use crate::line::command_of;
 use crate::lines::LinesLeft;
 use crate::numbers::small_of;
 use crate::script::{Blocks, Line, Lines, Script};
+use crate::stuck::stuck_line;
 use crate::words::{is_passed_over, line_text, next_word, one_word, two_words};
 use pl_edit::Block;
 use pl_units::{NoMemory, Refusal, Shared, Text};
@@ -29,7 +29,7 @@ use std::sync::Arc;
 /// The script of a text of at most 2^28 bytes: the head `plater 1`; perhaps a line `workers N`; blocks, each a line
 /// `data NAME`, its lines and a line `.end`; command lines `S COMMAND`, at most 10,000. Empty lines and those that begin with
 /// `#` are passed over outside blocks. A text that is none is refused at its first breach, with the breach's line counted
-/// from 1. Sessions beside the first, the command `after` and workers above 0 are not taken yet.
+/// from 1; after all lines it is refused as `Stuck` where its sessions wait for one another for ever.
 pub fn read_script(alloc: Global, bytes: &[u8]) -> Result<Script, Refusal<ScriptFault>>
     requires { length bytes.now ≤ 2 ^ 28 }
     ensures script { IfOk result (IsScriptText (lines_of bytes.now)) }
@@ -41,14 +41,30 @@ pub fn read_script(alloc: Global, bytes: &[u8]) -> Result<Script, Refusal<Script
     // The call answers what the text says, unless memory runs out.
     ensures reading { Gives result (script_of bytes.now) }
 {
-    read_lines(alloc, LinesLeft::of(bytes))
+    read_whole(alloc, LinesLeft::of(bytes))
 }
 
-// The script of all lines of a text.
-fn read_lines(alloc: Global, mut lines: LinesLeft<'_>) -> Result<Script, Refusal<ScriptFault>>
+// The script of all lines of a text, unless it is stuck.
+fn read_whole(alloc: Global, lines: LinesLeft<'_>) -> Result<Script, Refusal<ScriptFault>>
     requires first { number_left lines ≡ 1 }
     requires size { size_left lines ≤ 2 ^ 28 + 1 }
     ensures { Gives result (script_in (lines_left lines.entry)) }
+{
+    let script = read_lines(alloc, lines)?;
+    match stuck_line(script.lines()) {
+        None => Ok(script),
+        Some(line) => Err(Refusal::Fault {
+            line,
+            fault: ScriptFault::Stuck,
+        }),
+    }
+}
+
+// The script of all lines of a text, before it is looked whether its sessions wait for one another.
+fn read_lines(alloc: Global, mut lines: LinesLeft<'_>) -> Result<Script, Refusal<ScriptFault>>
+    requires first { number_left lines ≡ 1 }
+    requires size { size_left lines ≤ 2 ^ 28 + 1 }
+    ensures { Gives result (beginning_in (lines_left lines.entry)) }
 {
     match lines.next() {
         Some(head) if is_head(line_text(head)) => after_head(alloc, lines),
@@ -101,10 +117,7 @@ fn workers_in(line: &[u8]) -> Result<Option<u8>, ScriptFault>
     let Some(workers) = small_of(8, number) else {
         return Err(ScriptFault::BadLine);
     };
-    match early_workers(workers) {
-        Some(fault) => Err(fault),
-        None => Ok(Some(workers)),
-    }
+    Ok(Some(workers))
 }
 
 // The script from a line on that is not passed over: here, with the lines after it.
@@ -263,7 +276,7 @@ pub fn block_after(
         return Err(LineStop::Fault(ScriptFault::CutData));
     };
     let name = Text::copy_of(alloc, name)?;
-    match Arc::new(alloc, Block::of(name, bytes)) {
+    match Arc::new(alloc, Block::read(alloc, name, bytes)) {
         Ok(block) => Ok(Shared::of(block)),
         Err(_) => Err(LineStop::NoMemory),
     }

@@ -7,6 +7,48 @@ use pl_machine::Command;
 use pl_units::{NoMemory, Shared};
 use std::alloc::Global;
 use std::marker::Model;
+use std::sync::Arc;
+
+/// A command that a script and those who run it share: seen as the command.
+#[derive(Drop)]
+pub struct SharedCommand {
+    arc: Arc<Command<Edit>>,
+}
+
+impl Model for SharedCommand {
+    ghost use Rattle.std.specs.Arc.{arc_value};
+    ghost use Rattle.pl_script.specs.Orders.{Order};
+
+    ghost Value = { Order };
+
+    ghost view = { λ c. arc_value c.arc };
+}
+
+impl SharedCommand {
+    ghost use Rattle.std.specs.Prelude.{◌≡◌, IfOk};
+    ghost use Rattle.std.specs.Arc.{arc_value};
+
+    /// The command that the `Arc` holds, of which this is one owner.
+    pub(crate) fn of(arc: Arc<Command<Edit>>) -> SharedCommand
+        ensures { result ≡ arc_value arc }
+    {
+        SharedCommand { arc }
+    }
+
+    /// The command.
+    pub fn get(&self) -> &Command<Edit>
+        ensures { result.now ≡ self.now }
+    {
+        &self.arc
+    }
+
+    /// One more owner of the command. It takes no memory, and is refused where the count of owners is full, at 2^63 - 1.
+    pub fn owner(&self) -> Result<Arc<Command<Edit>>, NoMemory>
+        ensures { IfOk result (λ arc. arc_value arc ≡ self.now) }
+    {
+        Ok(Arc::try_clone(&self.arc)?)
+    }
+}
 
 /// A command line.
 #[derive(Drop)]
@@ -16,7 +58,7 @@ pub struct Line {
     /// The session whose command it is, from 1 to 16.
     pub session: u8,
     /// The command.
-    pub command: Command<Edit>,
+    pub command: SharedCommand,
 }
 
 /// The blocks of a script, each by its name, in the order of their lines: seen as their list. Each has a name of 1 to 64

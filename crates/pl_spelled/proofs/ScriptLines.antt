@@ -4,15 +4,17 @@ use Rattle.std.specs.Result.{IfOk}
 use Rattle.std.proofs.lemmas.List.Elements.{All-nil, All-cons, All-head, All-tail, All-push}
 use Rattle.pl_edit.specs.Data.{Data}
 use Rattle.pl_script.specs.declared.fault.ScriptFault.TheVariants.{BadLine}
+use Rattle.pl_script.specs.declared.script.Line.{Line}
 use Rattle.pl_script.specs.Lines.{lines_of, line_text, line_words, without_last}
 use Rattle.pl_script.specs.Forms.{is_name}
 use Rattle.pl_script.specs.Orders.{two_of}
 use Rattle.pl_script.specs.Script.{Script, script_of, name_in, data_name}
-use Rattle.pl_script.specs.Grammar.{IsBlock, IsScriptText, head, passed, workers, block, command}
+use Rattle.pl_script.specs.Grammar.{IsBlock, IsBeginning, head, passed, workers, block, command}
 use Rattle.pl_script.specs.Kept.{IsInLine, IsLine, HasBlock, HaveBlocks}
 use Rattle.pl_script.proofs.Keeping.{ok_where, ok_fact, text_in_line, lines_in_line}
 use Rattle.pl_script.proofs.KeptLines.{KeepsLine, command_keeps}
 use Rattle.pl_script.proofs.Texts.{empty_is}
+use Rattle.pl_script.proofs.Told.{command_read}
 use Rattle.pl_script.proofs.OneReading.{its_script}
 use Rattle.pl_spelled.specs.Script.{IsName}
 
@@ -40,7 +42,7 @@ name_in_named (Some w) = ok_where IsName (is_name w.1) (Ok w.1) BadLine (λ e. e
 block_is_named : (part : List (List ℕ)) (data_block : Data) → IsBlock part data_block → IsName data_block.name
 block_is_named part data_block is = ok_fact IsName (data_name (line_words is.first)) data_block.name is.name (name_in_named (two_of (line_words is.first)))
 
-text_keeps : (lines : List (List ℕ)) (script : Script) → IsScriptText lines script → All IsInLine lines → Keeps script
+text_keeps : (lines : List (List ℕ)) (script : Script) → IsBeginning lines script → All IsInLine lines → Keeps script
 text_keeps _ _ (head line e) h = record { lines = All-nil IsLine; carried = All-nil (λ l. HasBlock [] l.command); named = All-nil (λ b. IsName b.name) }
 text_keeps _ _ (passed before script line t e) h = text_keeps before script t (all_front IsInLine before (line ∷ []) h)
 text_keeps _ _ (workers before script line number t sets is) h =
@@ -54,10 +56,12 @@ text_keeps _ _ (block before script part data_block t none is new) h =
       carried = subst (HaveBlocks blocks) (sym (empty_is script.lines none)) (All-nil (λ l. HasBlock blocks l.command));
       named = All-push (λ b. IsName b.name) script.blocks data_block k.named (block_is_named part data_block is);
     }
-text_keeps _ _ (command before script line c t other is) h =
+text_keeps _ _ (command before script line session order t other is few) h =
+    let c : Line = record { number = length before + 1; session = session; command = order } in
+    let read = command_read script.blocks (length script.lines) (length before + 1) (line_text line) session order is few in
     let k = text_keeps before script t (all_front IsInLine before (line ∷ []) h) in
     let in_line = text_in_line line (All-head IsInLine line [] (all_back IsInLine before (line ∷ []) h)) in
-    let keeps : KeepsLine script.blocks (length script.lines) c = ok_fact (KeepsLine script.blocks (length script.lines)) _ c is (command_keeps script.blocks (length script.lines) (length before + 1) (line_text line) in_line) in
+    let keeps : KeepsLine script.blocks (length script.lines) c = ok_fact (KeepsLine script.blocks (length script.lines)) _ c read (command_keeps script.blocks (length script.lines) (length before + 1) (line_text line) in_line) in
     record {
       lines = All-push IsLine script.lines c k.lines keeps.is;
       carried = All-push (λ l. HasBlock script.blocks l.command) script.lines c k.carried keeps.block;
@@ -65,4 +69,4 @@ text_keeps _ _ (command before script line c t other is) h =
     }
 
 pub script_keeps : (bytes : List ℕ) (script : Script) → script_of bytes ≡ Ok script → Keeps script
-script_keeps bytes script e = text_keeps (lines_of bytes) script (its_script (lines_of bytes) script e) (lines_in_line (without_last 10 bytes))
+script_keeps bytes script e = text_keeps (lines_of bytes) script (its_script (lines_of bytes) script e).says (lines_in_line (without_last 10 bytes))
