@@ -25,11 +25,11 @@ use Rattle.pl_plater.specs.declared.words.Task.{Task}
 use Rattle.pl_plater.specs.declared.words.Task.TheVariants.{Run, Slice}
 use Rattle.pl_plater.specs.Words.{task_of, OnTask}
 use Rattle.pl_plater.specs.Status.{IsBeforeWriting, IsAfterReading, script_status, slice_status, stop_status}
-use Rattle.pl_session.specs.Complete.{IsComplete, runs_of}
+use Rattle.pl_session.specs.Complete.{runs_of}
 use Rattle.pl_slots.specs.Fff.{fff_meaning}
 use Rattle.pl_transcript.specs.Entries.{transcript}
-use Rattle.pl_plater.specs.Commands.{session_commands}
-use Rattle.pl_plater.specs.Headline.{limit, Meaning, meaning_of, IsCause, Answers, IsInput, EndsWell, History, IsTranscript, Wrote, WroteFront, WritesFront}
+use Rattle.pl_scripted.specs.Commands.{IsOfOne}
+use Rattle.pl_plater.specs.Headline.{limit, Meaning, meaning_of, IsCause, Answers, IsInput, EndsWell, History, IsHistoryOf, IsTranscript, Wrote, WroteFront, WritesFront}
 
 -- what holds of the command that was told
 pub on_task : (words : List (String Global)) (told : Option Task) (task : Task) (P : Task → Type 0) → told ≡ task_of words → told ≡ Some task → P task → OnTask words P
@@ -119,8 +119,8 @@ answers_stop task ReadStop.TooLong status old new e long = subst (λ (s : Status
 answers_stop task ReadStop.NoMemory status old new e long = subst (λ (s : Status). IfSome old (Answers task s)) (sym e) (anything old (Answers task (stop_status ReadStop.NoMemory)) (λ bytes. tt))
 
 -- the transcript of a script's history, and a front of it
-module _ (script : Script) (old new : Option (List ℕ)) (history written : History) (runs : ℕ) (done : IsComplete fff_meaning (session_commands script.lines) 0 history)
-    (alone : (other : History) → IsComplete fff_meaning (session_commands script.lines) 0 other → other ≡ history) (counted : runs ≡ runs_of history) (whole : written ≡ history) where
+module _ (script : Script) (old new : Option (List ℕ)) (history written : History) (runs : ℕ) (done : IsHistoryOf script history)
+    (alone : IsOfOne script → (other : History) → IsHistoryOf script other → other ≡ history) (counted : runs ≡ runs_of history) (whole : written ≡ history) where
   told : IsTranscript script (transcript fff_meaning written runs)
   told = record { history = history; complete = done; alone = alone; is = rw (whole, counted) refl }
 

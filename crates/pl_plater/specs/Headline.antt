@@ -23,7 +23,7 @@ use Rattle.pl_fff.specs.declared.fff.Fff.{Fff}
 use Rattle.pl_fff.specs.declared.fff.FffBench.{FffBench}
 use Rattle.pl_fff.specs.declared.job.FffJob.{FffJob}
 use Rattle.pl_transcript.specs.Entries.{transcript}
-use Rattle.pl_plater.specs.Commands.{session_commands}
+use Rattle.pl_scripted.specs.Commands.{session_commands, IsOfOne}
 
 -- ---- input
 
@@ -72,12 +72,16 @@ Answers task _ bytes = ⊤
 abbrev pub History : Type 0
 History = List (Entry Fff Contents Edit EditReply FffOutput FffJob FffBench)
 
--- the text is the transcript of the one legal history that is complete for the script, and of its runs
+-- a legal history of all sessions and workers of the script, with each session's commands once and in order
+abbrev pub IsHistoryOf : Script → History → Type 0
+IsHistoryOf script history = IsComplete fff_meaning (session_commands script.lines) script.workers history
+
+-- the text is the transcript of one history of the script, and of its runs
 pub record IsTranscript (script : Script) (text : List ℕ) : Type 0 where
   pub history : History
-  pub complete : IsComplete fff_meaning (session_commands script.lines) 0 history
-  -- no other history is
-  pub alone : (other : History) → IsComplete fff_meaning (session_commands script.lines) 0 other → other ≡ history
+  pub complete : IsHistoryOf script history
+  -- of session 1 alone, without workers, there is no other
+  pub alone : IsOfOne script → (other : History) → IsHistoryOf script other → other ≡ history
   pub is : text ≡ transcript fff_meaning history (runs_of history)
 
 -- what a command writes: a transcript of the script, or the G-code of the plate

@@ -3,7 +3,6 @@
 
 #[cfg(test)]
 mod bodies;
-mod commands;
 #[cfg(test)]
 mod edit_tests;
 #[cfg(test)]
@@ -15,10 +14,13 @@ mod slice_tests;
 pub mod status;
 #[cfg(test)]
 mod tests;
+#[cfg(test)]
+mod threads_tests;
 mod top;
 mod words;
 
 // Why an input is refused: a script by `Script` alone, and an input that is too long by `Script(TooLong)`.
+pub use pl_scripted::run_script;
 pub use pl_sliced::SliceFault as TopFault;
 pub use slice::slice_once;
 pub use status::Status;

@@ -1,44 +1,23 @@
 //! The command `run`.
-ghost use Rattle.std.specs.Prelude.{◌≡◌, ◌≢◌, ◌≤◌, ◌⊎◌, length, All, IfOk, IfSome};
+ghost use Rattle.std.specs.Prelude.{◌≡◌, ◌≢◌, ◌≤◌, ◌⊎◌, length, IfSome};
 ghost use Rattle.std.specs.Io.KnownBytes.{IsAtEnd};
 ghost use Rattle.pl_ports.specs.Causes.{Rose, TookAtMost};
-ghost use Rattle.pl_session.specs.Complete.{IsComplete, runs_of};
-ghost use Rattle.pl_script.specs.Early.{IsOfFirst};
-ghost use Rattle.pl_slots.specs.Fff.{fff_meaning};
 ghost use Rattle.pl_plater.specs.declared.words.Task.TheVariants as tasks;
-ghost use Rattle.pl_plater.specs.Commands.{session_commands};
 ghost use Rattle.pl_plater.specs.Status.{IsBeforeWriting, IsAfterReading, script_status};
-ghost use Rattle.pl_plater.specs.Headline.{limit, Answers, IsInput, EndsWell, History, Wrote, WroteFront, Writes, WritesFront};
+ghost use Rattle.pl_plater.specs.Headline.{limit, Answers, IsInput, EndsWell, Wrote, WroteFront, Writes, WritesFront};
 
 use crate::TopFault;
-use crate::commands::commands_of;
 use crate::status::Status;
 use crate::top::LIMIT;
 use pl_fff::Fff;
-use pl_ports::{Sink, SinkStop, Source, read_all};
-use pl_script::{Script, ScriptFault, read_script, scripts_are_of_the_first_session};
-use pl_session::{Ended, one_complete_history, run_session};
+use pl_ports::{Gate, Sink, SinkStop, Source, read_all};
+use pl_script::{Script, ScriptFault, read_script};
+use pl_scripted::run_script;
 use pl_transcript::put_transcript;
-use pl_units::{NoMemory, Refusal};
+use pl_units::Refusal;
 use std::alloc::Global;
+use std::sync::Wait;
 use std::thread::Threads;
-
-// Runs the commands of a script of the first session on the calling thread.
-fn run_script<R: Threads + Sync>(
-    rt: &R,
-    alloc: Global,
-    script: Script,
-) -> Result<Ended<Fff>, NoMemory>
-    requires { All IsOfFirst script.lines }
-    ensures complete { IfOk result (λ ended. IsComplete fff_meaning (session_commands script.lines) 0 ended.journal.items) }
-    ensures alone { IfOk result (λ ended. (other : History) → IsComplete fff_meaning (session_commands script.lines) 0 other → other ≡ ended.journal.items) }
-    ensures runs { IfOk result (λ ended. ended.runs ≡ runs_of ended.journal.items) }
-{
-    one_complete_history::<Fff>();
-    let (_, _, lines) = script.into_parts();
-    let commands = commands_of(alloc, lines)?;
-    run_session::<Fff, R>(rt, alloc, commands)
-}
 
 // A refusal of the script.
 fn refused(refusal: &Refusal<ScriptFault>) -> Status
@@ -53,20 +32,20 @@ fn refused(refusal: &Refusal<ScriptFault>) -> Status
     }
 }
 
-// Runs a script of the first session and writes its transcript.
-fn run_and_write<R: Threads + Sync, K: Sink>(
+// Runs a script by its sessions and workers, and writes the transcript.
+fn run_and_write<R: Threads + Wait + Sync, K: Sink, G: Gate + Sync>(
     rt: &R,
     alloc: Global,
-    script: Script,
+    script: &Script,
     sink: &mut K,
+    gate: &G,
 ) -> Status
-    requires { All IsOfFirst script.lines }
     ensures ended { IsAfterReading result }
-    ensures done { result ≡ Status.Done → Wrote tasks.Run script (K.held sink.old) (K.held sink.new) }
+    ensures done { result ≡ Status.Done → Wrote tasks.Run script.now (K.held sink.old) (K.held sink.new) }
     ensures write { result ≡ Status.WriteFault → Rose (K.faults sink.old) (K.faults sink.new) }
-    ensures front { (sink.new ≡ sink.old) ⊎ WroteFront tasks.Run script (K.held sink.old) (K.held sink.new) }
+    ensures front { (sink.new ≡ sink.old) ⊎ WroteFront tasks.Run script.now (K.held sink.old) (K.held sink.new) }
 {
-    let Ok(ended) = run_script(rt, alloc, script) else {
+    let Ok(ended) = run_script::<Fff, R, G>(rt, alloc, script, gate) else {
         return Status::NoMemory;
     };
     match put_transcript(sink, &ended.journal, ended.runs) {
@@ -77,7 +56,13 @@ fn run_and_write<R: Threads + Sync, K: Sink>(
 }
 
 // The command, from the bytes that were read on.
-fn play<R: Threads + Sync, K: Sink>(rt: &R, alloc: Global, bytes: &[u8], sink: &mut K) -> Status
+fn play<R: Threads + Wait + Sync, K: Sink, G: Gate + Sync>(
+    rt: &R,
+    alloc: Global,
+    bytes: &[u8],
+    sink: &mut K,
+    gate: &G,
+) -> Status
     requires { length bytes.now ≤ limit }
     ensures usage { result ≢ Status.Usage }
     ensures read { result ≢ Status.ReadFault }
@@ -91,16 +76,17 @@ fn play<R: Threads + Sync, K: Sink>(rt: &R, alloc: Global, bytes: &[u8], sink: &
         Ok(script) => script,
         Err(refusal) => return refused(&refusal),
     };
-    scripts_are_of_the_first_session();
-    run_and_write(rt, alloc, script, sink)
+    run_and_write(rt, alloc, &script, sink, gate)
 }
 
-/// The command `run`: reads a script of at most 2^28 bytes to its end, runs it and writes its transcript.
-pub(crate) fn run<R: Threads + Sync, S: Source, K: Sink>(
+/// The command `run`: reads a script of at most 2^28 bytes to its end, runs its sessions and workers, each of which passes the gate, and
+/// writes the transcript.
+pub(crate) fn run<R: Threads + Wait + Sync, S: Source, K: Sink, G: Gate + Sync>(
     rt: &R,
     alloc: Global,
     source: &mut S,
     sink: &mut K,
+    gate: &G,
 ) -> Status
     ensures usage { result ≢ Status.Usage }
     ensures answer { IfSome (S.left source.old) (Answers tasks.Run result) }
@@ -114,7 +100,7 @@ pub(crate) fn run<R: Threads + Sync, S: Source, K: Sink>(
     ensures complete { IfSome (S.left source.old) (λ bytes. IsInput tasks.Run bytes → ¬ Rose (S.faults source.old) (S.faults source.new) → ¬ Rose (K.faults sink.old) (K.faults sink.new) → EndsWell result) }
 {
     match read_all(alloc, source, LIMIT) {
-        Ok(text) => play(rt, alloc, text.bytes(), sink),
+        Ok(text) => play(rt, alloc, text.bytes(), sink, gate),
         Err(stop) => Status::unread(&stop),
     }
 }

@@ -21,7 +21,7 @@ const TRANSCRIPT: &[u8] =
     b"1 s1 load cube box = object 0\n2 s1 set perimeters 0 = ok\n3 s1 set fill_density 100% = ok\n4 s1 set skirts 0 = ok\n5 s1 apply = changed\n6 s1 start 0.slice 0\n7 s1 done 0.slice 0\n8 s1 start 0.perimeters 0\n9 s1 done 0.perimeters 0\n10 s1 start 0.prepare 0\n11 s1 done 0.prepare 0\n12 s1 start 0.infill 0\n13 s1 done 0.infill 0\n14 s1 start 0.ironing 0\n15 s1 done 0.ironing 0\n16 s1 start 0.support 0\n17 s1 done 0.support 0\n18 s1 start tower 0\n19 s1 done tower 0\n20 s1 start skirt 0\n21 s1 done skirt 0\n22 s1 start brim 0\n23 s1 done brim 0\n24 s1 start export 0\n25 s1 done export 0\n26 s1 export = gcode 409\n; headless plater\nG21\nG90\nM83\nM140 S60\nM104 S215\nM190 S60\nM109 S215\n;Z 0.200\nG1 Z0.200 F7800\n;OBJECT 0 0\nG1 X0.000 Y0.200 F7800\nG1 F4800\nG1 X0.800 Y0.200 E0.02660\nG1 X0.800 Y0.600 F7800\nG1 F4800\nG1 X0.000 Y0.600 E0.02660\n;Z 0.400\nG1 Z0.400 F7800\nM140 S60\nM104 S210\n;OBJECT 0 0\nG1 X0.200 Y0.000 F7800\nG1 F4800\nG1 X0.200 Y0.800 E0.02660\nG1 X0.600 Y0.800 F7800\nG1 F4800\nG1 X0.600 Y0.000 E0.02660\nM104 S0\nM140 S0\n\n27 s1 bye\nend 27 runs 10\n";
 
 // The words of the command line.
-fn words(alloc: Global, words: &[&str]) -> Result<Vec<String>, Fail> {
+pub(crate) fn words(alloc: Global, words: &[&str]) -> Result<Vec<String>, Fail> {
     let mut owned = Vec::new(alloc);
     for word in words {
         owned.push(format!(in alloc; "{word}")?)?;

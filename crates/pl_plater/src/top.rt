@@ -20,9 +20,9 @@ pub const LIMIT: usize = 1 << 28;
 
 /// Everything that the program does. The words are those after the program's name, and one of two is taken, alone: `run`
 /// reads a script of at most 2^28 bytes to its end, runs it and writes its transcript; `slice` reads a slice text of at
-/// most 2^28 bytes to its end and writes the G-code of its plate. A script is taken without workers, with session 1 alone and
-/// without `after`, as `read_script` says; its commands are made in order on the calling thread, and there is one history
-/// that they can have.
+/// most 2^28 bytes to its end and writes the G-code of its plate. The sessions and the workers of a script go on beside each
+/// other, each on a thread of its own where one is to be had, and pass the gate on their way. `run` waits for its threads;
+/// `slice` waits for nobody.
 pub fn plater<Runtime: Threads + Wait + Sync, S: Source, K: Sink, G: Gate + Sync>(
     rt: &Runtime,
     alloc: Global,
@@ -39,8 +39,8 @@ pub fn plater<Runtime: Threads + Wait + Sync, S: Source, K: Sink, G: Gate + Sync
     // Where the source tells its bytes: Done exactly for inputs of the command, and each refusal for its cause alone.
     ensures answer { OnTask words.now (λ task. IfSome (S.left source.old) (Answers task result)) }
 
-    // Done: what was written is the transcript of the one legal history that is complete for the script, or the G-code of
-    // the plate, and all was read.
+    // Done, in whatever order the threads took their turns: what was written is the transcript of one legal history that is
+    // complete for the script, or the G-code of the plate, and all was read.
     ensures done { result ≡ Status.Done → OnTask words.now (λ task. IfSome (S.left source.old) (λ bytes. Writes task bytes (K.held sink.old) (K.held sink.new))) }
     ensures read_to_end { result ≡ Status.Done → IsAtEnd (S.left source.new) }
 
@@ -57,7 +57,7 @@ pub fn plater<Runtime: Threads + Wait + Sync, S: Source, K: Sink, G: Gate + Sync
     ensures complete { OnTask words.now (λ task. IfSome (S.left source.old) (λ bytes. IsInput task bytes → ¬ Rose (S.faults source.old) (S.faults source.new) → ¬ Rose (K.faults sink.old) (K.faults sink.new) → EndsWell result)) }
 {
     match task_of(words) {
-        Some(Task::Run) => run(rt, alloc, source, sink),
+        Some(Task::Run) => run(rt, alloc, source, sink, gate),
         Some(Task::Slice) => slice_once(alloc, source, sink),
         None => Status::Usage,
     }

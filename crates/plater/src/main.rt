@@ -17,6 +17,15 @@ fn words(rt: &(impl Env + AllocGlobal)) -> io::Result<Vec<String>> {
     Ok(words)
 }
 
+// How the program ends where its words could not be read: memory was wanting, or a word is no text.
+fn unread(error: &io::Error) -> Status {
+    if error.kind() == io::ErrorKind::OutOfMemory {
+        Status::NoMemory
+    } else {
+        Status::Usage
+    }
+}
+
 // What is said of a run that was not done.
 fn tell(rt: &impl Eprint, status: &Status) -> io::Result<()> {
     match status {
@@ -36,7 +45,7 @@ fn main(rt: HostRuntime) -> ExitCode {
             let mut sink = StdoutSink::new(rt.stdout());
             plater(&rt, rt.alloc(), &words, &mut source, &mut sink, &OpenGate)
         }
-        Err(_) => Status::Usage,
+        Err(error) => unread(&error),
     };
     let _ = tell(&rt, &status);
     ExitCode::from(status.code())
