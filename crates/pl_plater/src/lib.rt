@@ -14,8 +14,6 @@ mod slice_tests;
 pub mod status;
 #[cfg(test)]
 mod tests;
-#[cfg(test)]
-mod threads_tests;
 mod top;
 mod words;
 
