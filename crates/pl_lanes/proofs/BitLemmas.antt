@@ -121,6 +121,11 @@ either_is (suc zero) (suc (suc b)) h k = absurd (omega arith)
 low_bits : (n i : ℕ) → (bit_at (2 ^ n - 1) i == 1) ≡ nat_lt i n
 low_bits n i = grind (arith, nat_tests, bit_at_ones n i, bit_at_ones_above n i)
 
+-- the n lowest bits
+pub has_bit-ones : (n i : ℕ) → has_bit (2 ^ n - 1) i ≡ nat_lt i n
+unfolding has_bit
+has_bit-ones n i = low_bits n i
+
 pub has_bit-toggled : (word n i : ℕ) → has_bit (toggled_word word n) i ≡ cond (nat_lt i n) (not (has_bit word i)) (has_bit word i)
 unfolding has_bit
 has_bit-toggled word n i = ap (λ b. b == 1) (bit_at_xor word (2 ^ n - 1) i) ∙ either_is (bit_at word i) (bit_at (2 ^ n - 1) i) (bit_at-lt word i) (bit_at-lt (2 ^ n - 1) i)
