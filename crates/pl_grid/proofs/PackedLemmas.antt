@@ -1,6 +1,5 @@
 -- What words say of a plane.
-use Rattle.std.proofs.Common.{◌≡◌, ℤ, ℕ, pos, zero, suc, ◌+ℤ◌, ◌+◌, ◌*◌, ◌/◌, ◌%◌, ◌<◌, ◌≤◌, Bool, false, List, length, slice_index_or, get_or, refl, sym, ◌∙◌, ap, arith}
-use Rattle.std.specs.List.{range_with_len}
+use Rattle.std.proofs.Common.{◌≡◌, ℤ, ℕ, pos, zero, suc, ◌+ℤ◌, ◌+◌, ◌*◌, ◌/◌, ◌%◌, ◌<◌, Bool, false, List, length, get_or, refl, sym, ◌∙◌, ap, arith}
 use Rattle.std.proofs.lemmas.List.FromFn.{get_or-map-range_with_len, length-map-range_with_len}
 use Rattle.std.proofs.lemmas.Nat.{mul-add-lt, div-mul-add, mod-mul-add, mul-le}
 use Rattle.pl_grid.specs.Extent.{Extent}
@@ -55,9 +54,9 @@ both_is op p q b c ws vs ws' vs' out ep eq same room ew ev h =
     let eq' : packed b vs ≡ q = ap (λ e. packed e vs) (sym eb) ∙ eq in
     let h' : (x : ℕ) → x < 64 * length ws' → is_set out x ≡ op (is_set ws x) (is_set vs x) = λ x less. h x less ∙ ap (λ l. op (is_set l x) (is_set vs' x)) ew ∙ ap (λ l. op (is_set ws x) (is_set l x)) ev in
     made_is p b ws out (λ x y. op (filled p x y) (filled q x y)) ep (λ i j hi hj.
-        h' (bit_place b.cols j i) (place_within b.cols b.rows j i (length ws') (ap length ew ∙ room) hj (column_within b.cols i hi))
-        ∙ ap (λ a. op a (is_set vs (bit_place b.cols j i))) (sym (filled_bit p b ws ep i j hi hj))
-        ∙ ap (λ a. op (filled p (b.x0 +ℤ pos i) (b.y0 +ℤ pos j)) a) (sym (filled_bit q b vs eq' i j hi hj)))
+    h' (bit_place b.cols j i) (place_within b.cols b.rows j i (length ws') (ap length ew ∙ room) hj (column_within b.cols i hi))
+    ∙ ap (λ a. op a (is_set vs (bit_place b.cols j i))) (sym (filled_bit p b ws ep i j hi hj))
+    ∙ ap (λ a. op (filled p (b.x0 +ℤ pos i) (b.y0 +ℤ pos j)) a) (sym (filled_bit q b vs eq' i j hi hj)))
 
 -- ---- no bit set
 

@@ -1,20 +1,18 @@
 -- The cells of a plane by the rows of its words.
-use Rattle.std.proofs.Common.{◌≡◌, ℤ, ℕ, pos, negsuc, zero, suc, ◌+ℤ◌, ◌-ℤ◌, ◌+◌, ◌-◌, ◌*◌, ◌/◌, ◌%◌, ◌<◌, ◌≤◌, Bool, true, false, ◌&&◌, ◌||◌, not, ◌==◌, List, [], length, refl, sym, ◌∙◌, ap, arith, cond, Some, None, Option}
+use Rattle.std.proofs.Common.{◌≡◌, ℤ, ℕ, pos, negsuc, zero, suc, ◌+ℤ◌, ◌-ℤ◌, ◌+◌, ◌-◌, ◌*◌, ◌<◌, ◌≤◌, Bool, true, false, ◌&&◌, ◌||◌, List, [], length, refl, sym, ◌∙◌, ap, arith, cond, Some, None, Option}
 use Rattle.std.specs.Prelude.{nat_lt}
-use Rattle.std.specs.Ordering.{int_eq}
 use Rattle.std.proofs.lemmas.Int.{ints}
 use Rattle.std.proofs.lemmas.Nat.{mul-le}
-use Rattle.std.proofs.lemmas.Bool.Decides.{nat_tests, Decides-int_eq}
-use Rattle.pl_lanes.specs.Bits.{is_set, is_set_before, stays_set, comes_set}
+use Rattle.pl_lanes.specs.Bits.{is_set, is_set_before}
 use Rattle.pl_grid.specs.Extent.{Extent, offset_in, place_at, column_of, row_of, grown}
-use Rattle.pl_grid.specs.Planes.{Cells, value_at, filled, plane_of, cell_at, stays, comes, eroded, dilated, widened, with_cell}
+use Rattle.pl_grid.specs.Planes.{Cells, value_at, filled, plane_of, stays, comes, eroded, dilated, widened}
 use Rattle.pl_grid.specs.Packed.{words_of, bit_place, packed, IsPacked, words_from, words_before, stays_at, comes_at, is_moved, is_widened}
 use Rattle.pl_grid.proofs.PackedLemmas.{made_is, packed_is, filled_bit, column_within}
 use Rattle.pl_grid.proofs.RowLemmas.{part_bits}
 use Rattle.std.proofs.lemmas.List.{length-take}
 use Rattle.std.proofs.Common.{drop}
 use Rattle.pl_grid.proofs.RowParts.{unset_past, before_none, from_past, five}
-use Rattle.pl_grid.proofs.Cases.{by_lt, by_eq, lt_yes, lt_no, eq_yes, eq_no, not_true}
+use Rattle.pl_grid.proofs.Cases.{by_lt, lt_yes, lt_no, eq_no}
 
 -- ---- the bits of a row of the words
 
@@ -32,8 +30,8 @@ past_row b words j k ok h = from_past words (words_of b.cols) (j * words_of b.co
 pub row_tail : (b : Extent) (words : List ℕ) (j k : ℕ) → IsPacked b words → b.cols ≤ k → is_set (row b words j) k ≡ false
 row_tail b words j k ok h = by_lt j b.rows
     (λ here. by_lt k (64 * words_of b.cols)
-        (λ inside. part_bits words (j * words_of b.cols) (words_of b.cols) k inside ∙ ok.tail j k here h inside)
-        (λ past. long_row b words j k past))
+    (λ inside. part_bits words (j * words_of b.cols) (words_of b.cols) k inside ∙ ok.tail j k here h inside)
+    (λ past. long_row b words j k past))
     (λ past. past_row b words j k ok past)
 
 -- ---- cells outside the box
@@ -60,8 +58,8 @@ before_offset n k z e = ap (offset_in n) e
 pub filled_row : (p : Cells) (b : Extent) (words : List ℕ) → packed b words ≡ p → IsPacked b words → (i j : ℕ) → filled p (b.x0 +ℤ pos i) (b.y0 +ℤ pos j) ≡ is_set (row b words j) i
 filled_row p b words e ok i j = ap (λ q. filled q (b.x0 +ℤ pos i) (b.y0 +ℤ pos j)) (sym e) ∙ by_lt i b.cols
     (λ hi. by_lt j b.rows
-        (λ hj. filled_bit (packed b words) b words refl i j hi hj ∙ sym (part_bits words (j * words_of b.cols) (words_of b.cols) i (column_within b.cols i hi)))
-        (λ past. off_row (packed b words) (b.x0 +ℤ pos i) (b.y0 +ℤ pos j) (past_offset b.rows j ((b.y0 +ℤ pos j) -ℤ b.y0) (omega (arith, ints)) past) ∙ sym (past_row b words j i ok past)))
+    (λ hj. filled_bit (packed b words) b words refl i j hi hj ∙ sym (part_bits words (j * words_of b.cols) (words_of b.cols) i (column_within b.cols i hi)))
+    (λ past. off_row (packed b words) (b.x0 +ℤ pos i) (b.y0 +ℤ pos j) (past_offset b.rows j ((b.y0 +ℤ pos j) -ℤ b.y0) (omega (arith, ints)) past) ∙ sym (past_row b words j i ok past)))
     (λ past. off_column (packed b words) (b.x0 +ℤ pos i) (b.y0 +ℤ pos j) (past_offset b.cols i ((b.x0 +ℤ pos i) -ℤ b.x0) (omega (arith, ints)) past) ∙ sym (row_tail b words j i ok past))
 
 filled_left : (p : Cells) (b : Extent) (words : List ℕ) → packed b words ≡ p → (k : ℕ) (x y : ℤ) → x ≡ b.x0 -ℤ pos (suc k) → filled p x y ≡ false
@@ -89,10 +87,10 @@ south_is p b words e ok i (suc j) hi =
     let start : suc j * words_of b.cols - words_of b.cols ≡ j * words_of b.cols = omega arith in
     ap (λ y. filled p (b.x0 +ℤ pos i) y) same ∙ filled_row p b words e ok i j
     ∙ sym (ap (λ t. is_set (cond t [] (words_from words (words_of b.cols) (suc j * words_of b.cols - words_of b.cols))) i) (eq_no (suc j * words_of b.cols) 0 (some j b.cols (column_within b.cols i hi)))
-        ∙ ap (λ s. is_set (words_from words (words_of b.cols) s) i) start)
-    where
-        some : (j cols : ℕ) → i < 64 * words_of cols → suc j * words_of cols ≡ 0 → ⊥
-        some j cols h z = omega (arith, mul-le 1 (words_of cols) (suc j) (words_of cols) (omega arith) (omega arith))
+    ∙ ap (λ s. is_set (words_from words (words_of b.cols) s) i) start)
+  where
+    some : (j cols : ℕ) → i < 64 * words_of cols → suc j * words_of cols ≡ 0 → ⊥
+    some j cols h z = omega (arith, mul-le 1 (words_of cols) (suc j) (words_of cols) (omega arith) (omega arith))
 
 north_is : (p : Cells) (b : Extent) (words : List ℕ) → packed b words ≡ p → IsPacked b words → (i j : ℕ) → filled p (b.x0 +ℤ pos i) ((b.y0 +ℤ pos j) +ℤ pos 1) ≡ is_set (words_from words (words_of b.cols) (j * words_of b.cols + words_of b.cols)) i
 north_is p b words e ok i j =
@@ -131,15 +129,15 @@ dilated_is p b words out cols e ok same h = made_is p b words out (comes p) e (�
 
 pub IsPacked-eroded : (b : Extent) (words out : List ℕ) → IsPacked b words → length out ≡ length words → ((j i : ℕ) → j < b.rows → i < 64 * words_of b.cols → is_set out (bit_place b.cols j i) ≡ stays_at words (words_of b.cols) (j * words_of b.cols) i) → IsPacked b out
 IsPacked-eroded b words out ok len h = record {
-    room = len ∙ ok.room;
-    tail = λ j i hj low high. h j i hj high ∙ ap (λ t. t && (is_set_before (row b words j) i && is_set (row b words j) (i + 1)) && (is_set (words_before words (words_of b.cols) (j * words_of b.cols)) i && is_set (words_from words (words_of b.cols) (j * words_of b.cols + words_of b.cols)) i)) (row_tail b words j i ok low)
-  }
+  room = len ∙ ok.room;
+  tail = λ j i hj low high. h j i hj high ∙ ap (λ t. t && (is_set_before (row b words j) i && is_set (row b words j) (i + 1)) && (is_set (words_before words (words_of b.cols) (j * words_of b.cols)) i && is_set (words_from words (words_of b.cols) (j * words_of b.cols + words_of b.cols)) i)) (row_tail b words j i ok low);
+}
 
 pub IsPacked-dilated : (b : Extent) (words out : List ℕ) (cols : ℕ) → IsPacked b words → cols ≡ b.cols → length out ≡ length words → ((j i : ℕ) → j < b.rows → i < 64 * words_of b.cols → is_set out (bit_place b.cols j i) ≡ (nat_lt i cols && comes_at words (words_of b.cols) (j * words_of b.cols) i)) → IsPacked b out
 IsPacked-dilated b words out cols ok same len h = record {
-    room = len ∙ ok.room;
-    tail = λ j i hj low high. h j i hj high ∙ ap (λ t. t && comes_at words (words_of b.cols) (j * words_of b.cols) i) (lt_no i cols (omega (arith, same)))
-  }
+  room = len ∙ ok.room;
+  tail = λ j i hj low high. h j i hj high ∙ ap (λ t. t && comes_at words (words_of b.cols) (j * words_of b.cols) i) (lt_no i cols (omega (arith, same)));
+}
 
 -- ---- widened planes
 
@@ -147,12 +145,12 @@ widened_bit : (p : Cells) (b : Extent) (words : List ℕ) → packed b words ≡
 widened_bit p b words e ok by i j x y ex ey = by_lt j by
     (λ under. filled_under p b words e (by - j - 1) x y (omega (arith, ints)) ∙ sym (ap (λ t. cond t false (is_moved (row b words (j - by)) by i)) (lt_yes j by under)))
     (λ over. by_lt i by
-        (λ left. filled_left p b words e (by - i - 1) x y (omega (arith, ints)) ∙ sym (ap (λ t. cond t false (is_moved (row b words (j - by)) by i)) (lt_no j by over) ∙ ap (λ t. cond t false (is_set (row b words (j - by)) (i - by))) (lt_yes i by left)))
-        (λ right.
-            let same_x : x ≡ b.x0 +ℤ pos (i - by) = omega (arith, ints) in
-            let same_y : y ≡ b.y0 +ℤ pos (j - by) = omega (arith, ints) in
-            ap (λ z. filled p z y) same_x ∙ ap (λ z. filled p (b.x0 +ℤ pos (i - by)) z) same_y ∙ filled_row p b words e ok (i - by) (j - by)
-            ∙ sym (ap (λ t. cond t false (is_moved (row b words (j - by)) by i)) (lt_no j by over) ∙ ap (λ t. cond t false (is_set (row b words (j - by)) (i - by))) (lt_no i by right))))
+    (λ left. filled_left p b words e (by - i - 1) x y (omega (arith, ints)) ∙ sym (ap (λ t. cond t false (is_moved (row b words (j - by)) by i)) (lt_no j by over) ∙ ap (λ t. cond t false (is_set (row b words (j - by)) (i - by))) (lt_yes i by left)))
+    (λ right.
+    let same_x : x ≡ b.x0 +ℤ pos (i - by) = omega (arith, ints) in
+    let same_y : y ≡ b.y0 +ℤ pos (j - by) = omega (arith, ints) in
+    ap (λ z. filled p z y) same_x ∙ ap (λ z. filled p (b.x0 +ℤ pos (i - by)) z) same_y ∙ filled_row p b words e ok (i - by) (j - by)
+    ∙ sym (ap (λ t. cond t false (is_moved (row b words (j - by)) by i)) (lt_no j by over) ∙ ap (λ t. cond t false (is_set (row b words (j - by)) (i - by))) (lt_no i by right))))
 
 pub widened_is : (p : Cells) (b g : Extent) (words out : List ℕ) (by : ℕ) → packed b words ≡ p → IsPacked b words → g ≡ grown by p.bounds → ((j i : ℕ) → j < b.rows + 2 * by → i < 64 * words_of g.cols → is_set out (bit_place g.cols j i) ≡ is_widened words (words_of b.cols) by j i) → packed g out ≡ widened by p
 widened_is p b g words out by e ok eg h =
@@ -161,7 +159,7 @@ widened_is p b g words out by e ok eg h =
     let left : g.x0 ≡ b.x0 -ℤ pos by = ap (λ r. r.x0) same in
     let low : g.y0 ≡ b.y0 -ℤ pos by = ap (λ r. r.y0) same in
     packed_is g out (filled p) (λ i j hi hj. h j i (omega (arith, rows)) (column_within g.cols i hi)
-        ∙ sym (widened_bit p b words e ok by i j (g.x0 +ℤ pos i) (g.y0 +ℤ pos j) (ap (λ z. z +ℤ pos i) left) (ap (λ z. z +ℤ pos j) low)))
+    ∙ sym (widened_bit p b words e ok by i j (g.x0 +ℤ pos i) (g.y0 +ℤ pos j) (ap (λ z. z +ℤ pos i) left) (ap (λ z. z +ℤ pos j) low)))
     ∙ ap (λ r. plane_of r (filled p)) eg
 
 pub IsPacked-widened : (p : Cells) (b g : Extent) (words out : List ℕ) (by : ℕ) → packed b words ≡ p → IsPacked b words → g ≡ grown by p.bounds → length out ≡ (b.rows + 2 * by) * words_of g.cols → ((j i : ℕ) → j < b.rows + 2 * by → i < 64 * words_of g.cols → is_set out (bit_place g.cols j i) ≡ is_widened words (words_of b.cols) by j i) → IsPacked g out
@@ -174,6 +172,6 @@ IsPacked-widened p b g words out by e ok eg len h =
       tail = λ j i hj low high. h j i (omega (arith, rows)) high ∙ by_lt j by
           (λ under. ap (λ t. cond t false (is_moved (row b words (j - by)) by i)) (lt_yes j by under))
           (λ over. ap (λ t. cond t false (is_moved (row b words (j - by)) by i)) (lt_no j by over)
-              ∙ ap (λ t. cond t false (is_set (row b words (j - by)) (i - by))) (lt_no i by (omega (arith, cols)))
-              ∙ row_tail b words (j - by) (i - by) ok (omega (arith, cols)));
+          ∙ ap (λ t. cond t false (is_set (row b words (j - by)) (i - by))) (lt_no i by (omega (arith, cols)))
+          ∙ row_tail b words (j - by) (i - by) ok (omega (arith, cols)));
     }

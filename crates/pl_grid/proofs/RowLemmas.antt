@@ -1,5 +1,5 @@
 -- The bits of one row among all.
-use Rattle.std.proofs.Common.{◌≡◌, ℕ, ◌+◌, ◌-◌, ◌*◌, ◌/◌, ◌%◌, ◌<◌, ◌≤◌, ◌==◌, Bool, List, ◌++◌, length, take, drop, get_or, set, get_or-set_same, get_or-set_other, refl, sym, ◌∙◌, ap, arith, cond, not}
+use Rattle.std.proofs.Common.{◌≡◌, ℕ, ◌+◌, ◌-◌, ◌*◌, ◌/◌, ◌%◌, ◌<◌, ◌≤◌, ◌==◌, Bool, List, ◌++◌, length, take, drop, get_or, set, get_or-set_same, get_or-set_other, sym, ◌∙◌, ap, arith, cond, not}
 use Rattle.std.specs.Prelude.{nat_lt}
 use Rattle.std.proofs.lemmas.List.{get_or-take, get_or-drop, get_or_append_left, length-take, length-drop}
 use Rattle.std.proofs.Math.Seq.{get_or-append_right}
@@ -90,9 +90,9 @@ pub set_in_words : (words : List ℕ) (at : ℕ) (v : Bool) (word : ℕ) → at 
     → (k : ℕ) → is_set (set words (at / 64) word) k ≡ cond (k == at) v (is_set words k)
 set_in_words words at v word within h k = by_eq (k / 64) (at / 64)
     (λ e. ap (λ w. has_bit (get_or (set words (at / 64) word) w 0) (k % 64)) e
-        ∙ ap (λ w. has_bit w (k % 64)) (get_or-set_same words (at / 64) word 0 (omega arith))
-        ∙ h (k % 64) (omega arith)
-        ∙ ap (λ b. cond b v (has_bit (get_or words (at / 64) 0) (k % 64))) (same_place at k e)
-        ∙ ap (λ w. cond (k == at) v (has_bit (get_or words w 0) (k % 64))) (sym e))
+    ∙ ap (λ w. has_bit w (k % 64)) (get_or-set_same words (at / 64) word 0 (omega arith))
+    ∙ h (k % 64) (omega arith)
+    ∙ ap (λ b. cond b v (has_bit (get_or words (at / 64) 0) (k % 64))) (same_place at k e)
+    ∙ ap (λ w. cond (k == at) v (has_bit (get_or words w 0) (k % 64))) (sym e))
     (λ apart. ap (λ w. has_bit w (k % 64)) (get_or-set_other words (at / 64) (k / 64) word 0 apart)
-        ∙ ap (λ b. cond b v (is_set words k)) (sym (eq_no k at (λ same. apart (ap (λ n. n / 64) same)))))
+    ∙ ap (λ b. cond b v (is_set words k)) (sym (eq_no k at (λ same. apart (ap (λ n. n / 64) same)))))

@@ -1,13 +1,12 @@
 -- Single rows of the words of a plane, and their bits.
-use Rattle.std.proofs.Common.{◌≡◌, ℕ, zero, suc, ◌+◌, ◌-◌, ◌*◌, ◌/◌, ◌%◌, ◌^◌, ◌<◌, ◌≤◌, ◌==◌, Bool, true, false, ◌&&◌, ◌||◌, List, [], length, take, drop, get_or, set, get_or-set_same, get_or-set_other, refl, sym, ◌∙◌, ap, arith, cond, subst}
+use Rattle.std.proofs.Common.{◌≡◌, ℕ, zero, suc, ◌+◌, ◌-◌, ◌*◌, ◌/◌, ◌%◌, ◌^◌, ◌<◌, ◌≤◌, Bool, false, ◌&&◌, ◌||◌, List, [], length, drop, get_or, set, get_or-set_same, get_or-set_other, refl, sym, ◌∙◌, ap, arith, cond, subst}
 use Rattle.std.specs.Prelude.{nat_lt, bit_and}
 use Rattle.std.proofs.lemmas.List.{get_or_past, length-take, length-drop}
 use Rattle.std.proofs.lemmas.Nat.{mul-le}
-use Rattle.std.proofs.lemmas.Bool.Decides.{nat_tests}
 use Rattle.pl_lanes.specs.Bits.{has_bit, is_set, is_set_before, stays_set, comes_set, word_before}
 use Rattle.pl_lanes.proofs.BitLemmas.{has_bit-zero}
-use Rattle.pl_grid.specs.Packed.{words_of, words_from, words_before, stays_at, comes_at, is_moved, is_widened}
-use Rattle.pl_grid.proofs.Cases.{by_eq, by_lt, eq_yes, eq_no, lt_yes, lt_no}
+use Rattle.pl_grid.specs.Packed.{words_of, words_from, words_before, is_moved, is_widened}
+use Rattle.pl_grid.proofs.Cases.{by_eq, by_lt, lt_yes, lt_no}
 use Rattle.pl_grid.proofs.WordLemmas.{has_bit-kept}
 
 -- ---- bits that no row has
@@ -48,17 +47,17 @@ kept_in_words row cols k few room some less =
     let word = bit_and (get_or row (length row - 1) 0) ((2 ^ 64 - 1) / 2 ^ (64 * length row - cols)) in
     by_eq (k / 64) (length row - 1)
     (λ e. ap (λ w. has_bit (get_or (set row (length row - 1) word) w 0) (k % 64)) e
-        ∙ ap (λ w. has_bit w (k % 64)) (get_or-set_same row (length row - 1) word 0 (omega arith))
-        ∙ has_bit-kept (get_or row (length row - 1) 0) (64 * length row - cols) (k % 64) (omega arith)
-        ∙ ap (λ b. b && has_bit (get_or row (length row - 1) 0) (k % 64)) (column k cols (length row) (length row - 1) e room some)
-        ∙ ap (λ w. nat_lt k cols && has_bit (get_or row w 0) (k % 64)) (sym e))
+    ∙ ap (λ w. has_bit w (k % 64)) (get_or-set_same row (length row - 1) word 0 (omega arith))
+    ∙ has_bit-kept (get_or row (length row - 1) 0) (64 * length row - cols) (k % 64) (omega arith)
+    ∙ ap (λ b. b && has_bit (get_or row (length row - 1) 0) (k % 64)) (column k cols (length row) (length row - 1) e room some)
+    ∙ ap (λ w. nat_lt k cols && has_bit (get_or row w 0) (k % 64)) (sym e))
     (λ apart. ap (λ w. has_bit w (k % 64)) (get_or-set_other row (length row - 1) (k / 64) word 0 apart)
-        ∙ sym (ap (λ b. b && is_set row k) (lt_yes k cols (omega arith))))
-    where
-        column : (k cols n last : ℕ) → k / 64 ≡ n - 1 → n ≡ words_of cols → 0 < n → nat_lt (k % 64) (64 - (64 * n - cols)) ≡ nat_lt k cols
-        column k cols n last e room some = by_lt k cols
-            (λ low. lt_yes (k % 64) (64 - (64 * n - cols)) (omega arith) ∙ sym (lt_yes k cols low))
-            (λ high. lt_no (k % 64) (64 - (64 * n - cols)) (omega arith) ∙ sym (lt_no k cols high))
+    ∙ sym (ap (λ b. b && is_set row k) (lt_yes k cols (omega arith))))
+  where
+    column : (k cols n last : ℕ) → k / 64 ≡ n - 1 → n ≡ words_of cols → 0 < n → nat_lt (k % 64) (64 - (64 * n - cols)) ≡ nat_lt k cols
+    column k cols n last e room some = by_lt k cols
+        (λ low. lt_yes (k % 64) (64 - (64 * n - cols)) (omega arith) ∙ sym (lt_yes k cols low))
+        (λ high. lt_no (k % 64) (64 - (64 * n - cols)) (omega arith) ∙ sym (lt_no k cols high))
 
 -- ---- rows moved up
 
@@ -85,11 +84,11 @@ moved_is row by at k result low hk h =
     let before = word_before row (at - by / 64) in
     h ∙ by_lt k (by % 64)
     (λ less. ap (λ b. cond b (has_bit before (64 - by % 64 + k)) (has_bit (get_or row (at - by / 64) 0) (k - by % 64))) (lt_yes k (by % 64) less)
-        ∙ by_eq at (by / 64)
-            (λ e. ap (λ w. has_bit w (64 - by % 64 + k)) (word_before_none row (at - by / 64) (omega arith)) ∙ has_bit-zero (64 - by % 64 + k) ∙ sym (ap (λ b. cond b false (is_set row (64 * at + k - by))) (lt_yes (64 * at + k) by (omega arith))))
-            (λ apart. ap (λ w. has_bit w (64 - by % 64 + k)) (word_before_is row (at - by / 64) (omega arith)) ∙ here_is row by at (at - by / 64 - 1) k (64 - by % 64 + k) (64 * at + k) refl (omega arith) (omega arith) (omega arith)))
+    ∙ by_eq at (by / 64)
+    (λ e. ap (λ w. has_bit w (64 - by % 64 + k)) (word_before_none row (at - by / 64) (omega arith)) ∙ has_bit-zero (64 - by % 64 + k) ∙ sym (ap (λ b. cond b false (is_set row (64 * at + k - by))) (lt_yes (64 * at + k) by (omega arith))))
+    (λ apart. ap (λ w. has_bit w (64 - by % 64 + k)) (word_before_is row (at - by / 64) (omega arith)) ∙ here_is row by at (at - by / 64 - 1) k (64 - by % 64 + k) (64 * at + k) refl (omega arith) (omega arith) (omega arith)))
     (λ high. ap (λ b. cond b (has_bit before (64 - by % 64 + k)) (has_bit (get_or row (at - by / 64) 0) (k - by % 64))) (lt_no k (by % 64) high)
-        ∙ here_is row by at (at - by / 64) k (k - by % 64) (64 * at + k) refl (omega arith) (omega arith) (omega arith))
+    ∙ here_is row by at (at - by / 64) k (k - by % 64) (64 * at + k) refl (omega arith) (omega arith) (omega arith))
 
 -- ---- row after row
 
@@ -124,11 +123,11 @@ pub record AreWidened (words out : List ℕ) (count rows by wide n : ℕ) : Type
 
 pub widened_none : (words out : List ℕ) (count rows by wide : ℕ) → length out ≡ (rows + 2 * by) * wide → ((k : ℕ) → is_set out k ≡ false) → AreWidened words out count rows by wide 0
 widened_none words out count rows by wide len h = record {
-    len = len;
-    done = λ j i hj hi. h (64 * (j * wide) + i) ∙ by_lt j (by + 0)
-        (λ low. sym (ap (λ b. cond b (is_widened words count by j i) false) (lt_yes j (by + 0) low) ∙ ap (λ b. cond b false (is_moved (words_from words count ((j - by) * count)) by i)) (lt_yes j by (omega arith))))
-        (λ high. sym (ap (λ b. cond b (is_widened words count by j i) false) (lt_no j (by + 0) high)))
-  }
+  len = len;
+  done = λ j i hj hi. h (64 * (j * wide) + i) ∙ by_lt j (by + 0)
+      (λ low. sym (ap (λ b. cond b (is_widened words count by j i) false) (lt_yes j (by + 0) low) ∙ ap (λ b. cond b false (is_moved (words_from words count ((j - by) * count)) by i)) (lt_yes j by (omega arith))))
+      (λ high. sym (ap (λ b. cond b (is_widened words count by j i) false) (lt_no j (by + 0) high)));
+}
 
 pub widened_more : (words out new : List ℕ) (count rows by wide n : ℕ) → AreWidened words out count rows by wide n → n < rows → length new ≡ length out
     → ((i : ℕ) → i < 64 * wide → is_set new (64 * ((n + by) * wide) + i) ≡ is_moved (words_from words count (n * count)) by i)
@@ -136,17 +135,17 @@ pub widened_more : (words out new : List ℕ) (count rows by wide n : ℕ) → A
     → ((k : ℕ) → 64 * ((n + by) * wide + wide) ≤ k → is_set new k ≡ is_set out k)
     → AreWidened words new count rows by wide (n + 1)
 widened_more words out new count rows by wide n w less len inside before after = record {
-    len = len ∙ w.len;
-    done = λ j i hj hi. by_eq j (n + by)
-        (λ e. ap (λ r. is_set new (64 * (r * wide) + i)) e ∙ inside i hi
-            ∙ ap (λ r. is_moved (words_from words count (r * count)) by i) (omega arith)
-            ∙ sym (ap (λ b. cond b (is_widened words count by j i) false) (lt_yes j (by + (n + 1)) (omega arith)) ∙ ap (λ b. cond b false (is_moved (words_from words count ((j - by) * count)) by i)) (lt_no j by (omega arith))))
-        (λ apart. by_lt j (n + by)
-            (λ low. before (64 * (j * wide) + i) (omega (arith, mul-le (suc j) wide (n + by) wide low (omega arith))) ∙ w.done j i hj hi
-                ∙ ap (λ b. cond b (is_widened words count by j i) false) (lt_yes j (by + n) (omega arith) ∙ sym (lt_yes j (by + (n + 1)) (omega arith))))
-            (λ high. after (64 * (j * wide) + i) (omega (arith, mul-le (suc (n + by)) wide j wide (omega arith) (omega arith))) ∙ w.done j i hj hi
-                ∙ ap (λ b. cond b (is_widened words count by j i) false) (lt_no j (by + n) (omega arith) ∙ sym (lt_no j (by + (n + 1)) (omega arith)))))
-  }
+  len = len ∙ w.len;
+  done = λ j i hj hi. by_eq j (n + by)
+      (λ e. ap (λ r. is_set new (64 * (r * wide) + i)) e ∙ inside i hi
+      ∙ ap (λ r. is_moved (words_from words count (r * count)) by i) (omega arith)
+      ∙ sym (ap (λ b. cond b (is_widened words count by j i) false) (lt_yes j (by + (n + 1)) (omega arith)) ∙ ap (λ b. cond b false (is_moved (words_from words count ((j - by) * count)) by i)) (lt_no j by (omega arith))))
+      (λ apart. by_lt j (n + by)
+      (λ low. before (64 * (j * wide) + i) (omega (arith, mul-le (suc j) wide (n + by) wide low (omega arith))) ∙ w.done j i hj hi
+      ∙ ap (λ b. cond b (is_widened words count by j i) false) (lt_yes j (by + n) (omega arith) ∙ sym (lt_yes j (by + (n + 1)) (omega arith))))
+      (λ high. after (64 * (j * wide) + i) (omega (arith, mul-le (suc (n + by)) wide j wide (omega arith) (omega arith))) ∙ w.done j i hj hi
+      ∙ ap (λ b. cond b (is_widened words count by j i) false) (lt_no j (by + n) (omega arith) ∙ sym (lt_no j (by + (n + 1)) (omega arith)))));
+}
 
 moved_past : (words : List ℕ) (count start by i : ℕ) → length words ≤ start → is_moved (words_from words count start) by i ≡ false
 moved_past words count start by i h = by_lt i by
@@ -157,5 +156,5 @@ pub widened_all : (words out : List ℕ) (count rows by wide n : ℕ) → AreWid
 widened_all words out count rows by wide n w e len j i hj hi = w.done j i hj hi ∙ by_lt j (by + n)
     (λ low. ap (λ b. cond b (is_widened words count by j i) false) (lt_yes j (by + n) low))
     (λ high. ap (λ b. cond b (is_widened words count by j i) false) (lt_no j (by + n) high)
-        ∙ sym (ap (λ b. cond b false (is_moved (words_from words count ((j - by) * count)) by i)) (lt_no j by (omega arith))
-            ∙ moved_past words count ((j - by) * count) by i (omega (arith, len, mul-le rows count (j - by) count (omega arith) (omega arith)))))
+    ∙ sym (ap (λ b. cond b false (is_moved (words_from words count ((j - by) * count)) by i)) (lt_no j by (omega arith))
+    ∙ moved_past words count ((j - by) * count) by i (omega (arith, len, mul-le rows count (j - by) count (omega arith) (omega arith)))))

@@ -124,7 +124,7 @@ scanned_skip line low cells old out at zero s within h = subst (Scanned line low
 scanned_skip line low cells old out at (suc n) s within h =
     let next : at + n + 1 ≡ at + suc n = omega arith in
     subst (Scanned line low cells old out) next
-        (scanned_empty line low cells old out (at + n) (scanned_skip line low cells old out at n s (omega arith) (λ k from to. h k from (omega arith))) (omega arith) (h (at + n) (omega arith) (omega arith)))
+    (scanned_empty line low cells old out (at + n) (scanned_skip line low cells old out at n s (omega arith) (λ k from to. h k from (omega arith))) (omega arith) (h (at + n) (omega arith) (omega arith)))
 
 -- several filled cells
 pub filled_more : (cells : List Bool) (at n : ℕ) → at + n ≤ length cells → ((k : ℕ) → at ≤ k → k < at + n → get_or cells k false ≡ true) → at + n + prefix_len (λ b. b) (drop (at + n) cells) ≡ at + prefix_len (λ b. b) (drop at cells)

@@ -1,5 +1,5 @@
 -- One cell changed.
-use Rattle.std.proofs.Common.{◌≡◌, ℤ, ℕ, pos, negsuc, suc, ◌-ℤ◌, Some, ◌+ℤ◌, ◌+◌, ◌*◌, ◌<◌, ◌≤◌, Bool, false, cond, ◌&&◌, ◌==◌, List, length, refl, sym, ◌∙◌, ap, arith}
+use Rattle.std.proofs.Common.{◌≡◌, ℤ, ℕ, pos, negsuc, suc, ◌-ℤ◌, Some, ◌+ℤ◌, ◌*◌, ◌<◌, Bool, cond, ◌&&◌, ◌==◌, List, length, sym, ◌∙◌, ap, arith}
 use Rattle.std.proofs.lemmas.Int.{ints}
 use Rattle.std.proofs.lemmas.Nat.{mul-le}
 use Rattle.std.proofs.lemmas.Bool.Decides.{nat_tests}
@@ -25,12 +25,12 @@ columns_apart cols j i j0 i0 same apart e = apart (omega (arith, e, ap (λ r. r 
 same_bit : (b : Extent) (x y : ℤ) (i j i0 j0 : ℕ) → b.x0 +ℤ pos i0 ≡ x → b.y0 +ℤ pos j0 ≡ y → i < b.cols → i0 < b.cols → (bit_place b.cols j i == bit_place b.cols j0 i0) ≡ (int_eq (b.x0 +ℤ pos i) x && int_eq (b.y0 +ℤ pos j) y)
 same_bit b x y i j i0 j0 ex ey hi hi0 = by_eq j j0
     (λ row. by_eq i i0
-        (λ column. eq_yes (bit_place b.cols j i) (bit_place b.cols j0 i0) (ap (λ n. bit_place b.cols n i) row ∙ ap (bit_place b.cols j0) column)
-            ∙ sym (ap (λ t. t && int_eq (b.y0 +ℤ pos j) y) (same_row b.x0 x i (ap (λ n. b.x0 +ℤ pos n) column ∙ ex)) ∙ same_row b.y0 y j (ap (λ n. b.y0 +ℤ pos n) row ∙ ey)))
-        (λ apart. eq_no (bit_place b.cols j i) (bit_place b.cols j0 i0) (columns_apart b.cols j i j0 i0 row apart)
-            ∙ sym (ap (λ t. t && int_eq (b.y0 +ℤ pos j) y) (other_row b.x0 x i i0 ex apart))))
+    (λ column. eq_yes (bit_place b.cols j i) (bit_place b.cols j0 i0) (ap (λ n. bit_place b.cols n i) row ∙ ap (bit_place b.cols j0) column)
+    ∙ sym (ap (λ t. t && int_eq (b.y0 +ℤ pos j) y) (same_row b.x0 x i (ap (λ n. b.x0 +ℤ pos n) column ∙ ex)) ∙ same_row b.y0 y j (ap (λ n. b.y0 +ℤ pos n) row ∙ ey)))
+    (λ apart. eq_no (bit_place b.cols j i) (bit_place b.cols j0 i0) (columns_apart b.cols j i j0 i0 row apart)
+    ∙ sym (ap (λ t. t && int_eq (b.y0 +ℤ pos j) y) (other_row b.x0 x i i0 ex apart))))
     (λ apart. eq_no (bit_place b.cols j i) (bit_place b.cols j0 i0) (rows_apart b.cols j i j0 i0 (column_within b.cols i hi) (column_within b.cols i0 hi0) apart)
-        ∙ sym (ap (λ t. int_eq (b.x0 +ℤ pos i) x && t) (other_row b.y0 y j j0 ey apart) ∙ and_false (int_eq (b.x0 +ℤ pos i) x)))
+    ∙ sym (ap (λ t. int_eq (b.x0 +ℤ pos i) x && t) (other_row b.y0 y j j0 ey apart) ∙ and_false (int_eq (b.x0 +ℤ pos i) x)))
 
 -- the words of which one bit is changed are the plane with the cell changed
 pub with_cell_is : (p : Cells) (b : Extent) (words words' out : List ℕ) (x y : ℤ) (v : Bool) (at i0 j0 : ℕ) → packed b words ≡ p → words' ≡ words → b.x0 +ℤ pos i0 ≡ x → b.y0 +ℤ pos j0 ≡ y → i0 < b.cols → at ≡ bit_place b.cols j0 i0
@@ -45,13 +45,13 @@ with_cell_is p b words words' out x y v at i0 j0 e ew ex ey hi0 ea h =
 
 pub IsPacked-set : (b : Extent) (words words' out : List ℕ) (v : Bool) (at i0 j0 : ℕ) → IsPacked b words → words' ≡ words → length out ≡ length words' → i0 < b.cols → at ≡ bit_place b.cols j0 i0 → ((k : ℕ) → is_set out k ≡ cond (k == at) v (is_set words' k)) → IsPacked b out
 IsPacked-set b words words' out v at i0 j0 ok ew len hi0 ea h = record {
-    room = len ∙ ap length ew ∙ ok.room;
-    tail = λ j i hj low high. h (bit_place b.cols j i)
-        ∙ ap (λ t. cond t v (is_set words' (bit_place b.cols j i))) (eq_no (bit_place b.cols j i) at (λ same. by_eq j j0
-            (λ row. columns_apart b.cols j i j0 i0 row (λ column. omega arith) (same ∙ ea))
-            (λ apart. rows_apart b.cols j i j0 i0 high (column_within b.cols i0 hi0) apart (same ∙ ea))))
-        ∙ ap (λ l. is_set l (bit_place b.cols j i)) ew ∙ ok.tail j i hj low high;
-  }
+  room = len ∙ ap length ew ∙ ok.room;
+  tail = λ j i hj low high. h (bit_place b.cols j i)
+      ∙ ap (λ t. cond t v (is_set words' (bit_place b.cols j i))) (eq_no (bit_place b.cols j i) at (λ same. by_eq j j0
+      (λ row. columns_apart b.cols j i j0 i0 row (λ column. omega arith) (same ∙ ea))
+      (λ apart. rows_apart b.cols j i j0 i0 high (column_within b.cols i0 hi0) apart (same ∙ ea))))
+      ∙ ap (λ l. is_set l (bit_place b.cols j i)) ew ∙ ok.tail j i hj low high;
+}
 
 offset_some : (n : ℕ) (z : ℤ) (k : ℕ) → offset_in n z ≡ Some k → z ≡ pos k
 offset_some n (pos m) k e = grind (arith, nat_tests)
@@ -63,4 +63,3 @@ column_some b x i e = let z = offset_some b.cols (x -ℤ b.x0) i e in omega (ari
 
 pub row_some : (b : Extent) (y : ℤ) (j : ℕ) → row_of b y ≡ Some j → b.y0 +ℤ pos j ≡ y
 row_some b y j e = let z = offset_some b.rows (y -ℤ b.y0) j e in omega (arith, ints, z)
-

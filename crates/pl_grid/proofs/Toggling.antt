@@ -1,13 +1,13 @@
 -- A row of which the cells below one column are turned over.
-use Rattle.std.proofs.Common.{◌≡◌, ℤ, ℕ, pos, negsuc, zero, suc, ◌+ℤ◌, ◌-ℤ◌, ◌+◌, ◌*◌, ◌/◌, ◌%◌, ◌<◌, ◌≤◌, Bool, true, false, cond, not, ◌&&◌, ◌==◌, List, length, refl, sym, ◌∙◌, ap, arith, Some, None, Option}
+use Rattle.std.proofs.Common.{◌≡◌, ℤ, ℕ, pos, suc, ◌+ℤ◌, ◌+◌, ◌*◌, ◌<◌, ◌≤◌, true, false, cond, not, ◌&&◌, List, length, sym, ◌∙◌, ap, arith}
 use Rattle.std.specs.Prelude.{nat_lt, int_lt}
 use Rattle.std.specs.Ordering.{int_eq}
 use Rattle.std.proofs.lemmas.Int.{ints}
 use Rattle.std.proofs.lemmas.Nat.{mul-le}
-use Rattle.std.proofs.lemmas.Bool.Decides.{nat_tests, Decides-int_eq, Decides-eqb}
+use Rattle.std.proofs.lemmas.Bool.Decides.{nat_tests, Decides-int_eq}
 use Rattle.pl_grid.proofs.Cases.{by_eq, not_true, and_true, and_false, lt_no}
-use Rattle.pl_grid.specs.Extent.{Extent, offset_in, row_of}
-use Rattle.pl_grid.specs.Planes.{Cells, filled, plane_of, toggled}
+use Rattle.pl_grid.specs.Extent.{Extent}
+use Rattle.pl_grid.specs.Planes.{Cells, filled, toggled}
 use Rattle.pl_lanes.specs.Bits.{is_set}
 use Rattle.pl_grid.specs.Packed.{words_of, bit_place, packed, IsPacked}
 use Rattle.pl_grid.proofs.PackedLemmas.{made_is, filled_bit, column_within}
@@ -53,16 +53,16 @@ there p b ws out x y row below i j e ey t hi hj apart =
 pub toggled_is : (p : Cells) (b : Extent) (ws out : List ℕ) (x y : ℤ) (row below : ℕ) → packed b ws ≡ p → b.y0 +ℤ pos row ≡ y → b.x0 +ℤ pos below ≡ x → row < b.rows → IsToggled b.cols row below ws out → packed b out ≡ toggled p x y
 toggled_is p b ws out x y row below e ey ex hr t =
     made_is p b ws out (λ u v. cond (int_lt u x && int_eq v y) (not (filled p u v)) (filled p u v)) e (λ i j hi hj.
-        by_eq j row (here p b ws out x y row below i j e ey ex t hi hr) (there p b ws out x y row below i j e ey t hi hj))
+    by_eq j row (here p b ws out x y row below i j e ey ex t hi hr) (there p b ws out x y row below i j e ey t hi hj))
 
 -- no bit past the last column is set
 pub IsPacked-toggled : (b : Extent) (ws out : List ℕ) (row below : ℕ) → IsPacked b ws → length out ≡ length ws → below ≤ b.cols → IsToggled b.cols row below ws out → IsPacked b out
 IsPacked-toggled b ws out row below ok len small t = record {
-    room = len ∙ ok.room;
-    tail = λ j i hj low high. by_eq j row
-        (λ e. ap (λ r. is_set out (bit_place b.cols r i)) e ∙ t.inside i high ∙ ap (λ c. cond c (not (is_set ws (bit_place b.cols row i))) (is_set ws (bit_place b.cols row i))) (lt_no i below (omega arith)) ∙ ap (λ r. is_set ws (bit_place b.cols r i)) (sym e) ∙ ok.tail j i hj low high)
-        (λ apart. others b.cols row below j i ws out t apart high ∙ ok.tail j i hj low high)
-  }
+  room = len ∙ ok.room;
+  tail = λ j i hj low high. by_eq j row
+      (λ e. ap (λ r. is_set out (bit_place b.cols r i)) e ∙ t.inside i high ∙ ap (λ c. cond c (not (is_set ws (bit_place b.cols row i))) (is_set ws (bit_place b.cols row i))) (lt_no i below (omega arith)) ∙ ap (λ r. is_set ws (bit_place b.cols r i)) (sym e) ∙ ok.tail j i hj low high)
+      (λ apart. others b.cols row below j i ws out t apart high ∙ ok.tail j i hj low high);
+}
 
 -- from what the call says
 pub toggled_from : (cols row below start count : ℕ) (ws ws' out : List ℕ) → ws' ≡ ws → start ≡ row * words_of cols → count ≡ words_of cols
@@ -71,7 +71,7 @@ pub toggled_from : (cols row below start count : ℕ) (ws ws' out : List ℕ) �
     → ((k : ℕ) → 64 * (start + count) ≤ k → is_set out k ≡ is_set ws' k)
     → IsToggled cols row below ws out
 toggled_from cols row below start count ws ws' out ew es ec inside before after = record {
-    inside = λ i less. rw (← es, ← ew) (inside i (omega (arith, ec)));
-    before = λ k less. before k (omega (arith, es)) ∙ ap (λ l. is_set l k) ew;
-    after = λ k low. after k (omega (arith, es, ec)) ∙ ap (λ l. is_set l k) ew
-  }
+  inside = λ i less. rw (← es, ← ew) (inside i (omega (arith, ec)));
+  before = λ k less. before k (omega (arith, es)) ∙ ap (λ l. is_set l k) ew;
+  after = λ k low. after k (omega (arith, es, ec)) ∙ ap (λ l. is_set l k) ew;
+}

@@ -3,10 +3,10 @@ use Rattle.std.proofs.Common.{◌≡◌, ◌==◌, ◌+◌, ◌-◌, ◌*◌, �
 use Rattle.std.specs.Int.{bit_at, bit_not, w64}
 use Rattle.std.specs.Prelude.{bit_or, bit_and, nat_lt}
 use Rattle.std.proofs.lemmas.Nat.{shr-shr, shr_split, pow_pos}
-use Rattle.std.proofs.lemmas.Nat.Bits.{bit_at_and, bit_at_or, bit_at_cat_low, bit_at_cat_high, bit_at-zero, bit_at_above, bit_at_set_same, bit_at_set_other, bit_at_clear_same, bit_at_clear_other, bit_at-trailing_zeros, ones_shr}
+use Rattle.std.proofs.lemmas.Nat.Bits.{bit_at_or, bit_at_cat_low, bit_at_cat_high, bit_at-zero, bit_at_above, bit_at_set_same, bit_at_set_other, bit_at_clear_same, bit_at_clear_other, bit_at-trailing_zeros, ones_shr}
 use Rattle.std.specs.Int.Count.{count_trailing_zeros, trailing_of_zero}
 use Rattle.pl_lanes.specs.Bits.{has_bit}
-use Rattle.pl_lanes.proofs.BitLemmas.{has_bit-zero, has_bit-and, has_bit-not, has_bit-ones}
+use Rattle.pl_lanes.proofs.BitLemmas.{has_bit-and, has_bit-not, has_bit-ones}
 use Rattle.pl_grid.proofs.Cases.{by_eq, by_lt, eq_yes, eq_no, lt_yes, lt_no, false_not_true}
 
 -- ---- one bit changed
@@ -47,10 +47,10 @@ unset_some word at (suc low) h e here = omega arith
 
 pub alike_set : (word at k : ℕ) → word < 2 ^ 64 → at + k < 64 → has_bit word at ≡ true → has_bit (bit_not w64 word) (at + k) ≡ false → has_bit word (at + k) ≡ has_bit word at
 alike_set word at k small within e h = double (has_bit word (at + k)) (sym (has_bit-not word (at + k) small within) ∙ h) ∙ sym e
-    where
-        double : (b : Bool) → not b ≡ false → b ≡ true
-        double true e = refl
-        double false e = absurd (false_not_true (sym e))
+  where
+    double : (b : Bool) → not b ≡ false → b ≡ true
+    double true e = refl
+    double false e = absurd (false_not_true (sym e))
 
 pub unset_after_set : (word at : ℕ) → word < 2 ^ 64 → at < 64 → has_bit word at ≡ true → has_bit (bit_not w64 word) at ≡ false
 unset_after_set word at small h e = has_bit-not word at small h ∙ ap not e
@@ -65,9 +65,9 @@ up_low word by k h low = cut (word * 2 ^ by) k h ∙ ap (λ m. bit_at m k) (sym 
 
 up_high : (word by k : ℕ) → k < 64 → by ≤ k → bit_at (word * 2 ^ by % 2 ^ 64) k ≡ bit_at word (k - by)
 up_high word by k h high = cut (word * 2 ^ by) k h ∙ ap (λ m. bit_at m k) (sym (add-zero (word * 2 ^ by))) ∙ bit_at_cat_high word by 0 k (pow_some by) high
-    where
-        pow_some : (n : ℕ) → 0 < 2 ^ n
-        pow_some n = pow_pos n
+  where
+    pow_some : (n : ℕ) → 0 < 2 ^ n
+    pow_some n = pow_pos n
 
 none_max : (b : ℕ) → max 0 b ≡ b
 none_max b = omega arith
@@ -81,18 +81,18 @@ has_bit-moved before word by k small h hk =
     let moved : bit_at (before / 2 ^ (64 - by)) k ≡ bit_at before (64 - by + k) = ap (λ n. n % 2) (shr-shr before (64 - by) k) in
     by_lt k by
     (λ low. ap (λ b. b == 1) (bit_at_or (word * 2 ^ by % 2 ^ 64) (before / 2 ^ (64 - by)) k ∙ ap (λ b. max b (bit_at (before / 2 ^ (64 - by)) k)) (up_low word by k hk low) ∙ none_max (bit_at (before / 2 ^ (64 - by)) k) ∙ moved)
-        ∙ sym (ap (λ b. cond b (bit_at before (64 - by + k) == 1) (bit_at word (k - by) == 1)) (lt_yes k by low)))
+    ∙ sym (ap (λ b. cond b (bit_at before (64 - by + k) == 1) (bit_at word (k - by) == 1)) (lt_yes k by low)))
     (λ high. ap (λ b. b == 1) (bit_at_or (word * 2 ^ by % 2 ^ 64) (before / 2 ^ (64 - by)) k ∙ ap (λ b. max (bit_at (word * 2 ^ by % 2 ^ 64) k) b) (moved ∙ bit_at_above before 64 (64 - by + k) small (omega arith)) ∙ max_none (bit_at (word * 2 ^ by % 2 ^ 64) k) ∙ up_high word by k hk high)
-        ∙ sym (ap (λ b. cond b (bit_at before (64 - by + k) == 1) (bit_at word (k - by) == 1)) (lt_no k by high)))
+    ∙ sym (ap (λ b. cond b (bit_at before (64 - by + k) == 1) (bit_at word (k - by) == 1)) (lt_no k by high)))
 
 -- ---- the high bits unset
 
 pub has_bit-kept : (word by k : ℕ) → by ≤ 64 → has_bit (bit_and word ((2 ^ 64 - 1) / 2 ^ by)) k ≡ (nat_lt k (64 - by) && has_bit word k)
 has_bit-kept word by k h =
     has_bit-and word ((2 ^ 64 - 1) / 2 ^ by) k ∙ ap (λ b. has_bit word k && b) (ap (λ n. has_bit n k) (ones_shr 64 by h) ∙ has_bit-ones (64 - by) k) ∙ swap (has_bit word k) (nat_lt k (64 - by))
-    where
-        swap : (a b : Bool) → (a && b) ≡ (b && a)
-        swap true true = refl
-        swap true false = refl
-        swap false true = refl
-        swap false false = refl
+  where
+    swap : (a b : Bool) → (a && b) ≡ (b && a)
+    swap true true = refl
+    swap true false = refl
+    swap false true = refl
+    swap false false = refl

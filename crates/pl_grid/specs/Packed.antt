@@ -1,5 +1,5 @@
 -- A plane kept as rows of bits: what its words say.
-use Rattle.std.specs.Prelude.{◌≡◌, ℕ, ◌+◌, ◌-◌, ◌*◌, ◌/◌, ◌%◌, ◌<◌, ◌≤◌, ◌==◌, ◌&&◌, nat_lt, Bool, false, List, [], length, map, take, drop, if◌then◌else◌}
+use Rattle.std.specs.Prelude.{◌≡◌, ℕ, ◌+◌, ◌-◌, ◌*◌, ◌/◌, ◌%◌, ◌<◌, ◌≤◌, ◌==◌, nat_lt, Bool, false, List, [], length, map, take, drop, if◌then◌else◌}
 use Rattle.std.specs.List.{range_with_len}
 use Rattle.pl_grid.specs.Extent.{Extent}
 use Rattle.pl_grid.specs.Planes.{Cells}

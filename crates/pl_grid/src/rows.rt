@@ -64,7 +64,12 @@ fn erode_rows(words: &[u64], none: &[u64], rows: usize, out: &mut [u64])
 }
 
 /// The eroded rows of `count` words each.
-pub(crate) fn erode_words(alloc: Global, words: &[u64], count: usize, rows: usize) -> Result<Vec<u64>, NoMemory>
+pub(crate) fn erode_words(
+    alloc: Global,
+    words: &[u64],
+    count: usize,
+    rows: usize,
+) -> Result<Vec<u64>, NoMemory>
     requires { length words.now ≡ rows * count }
     ensures len { IfOk result (λ v. length v.items ≡ length words.now) }
     ensures bits { IfOk result (λ v. (j i : ℕ) → j < rows → i < 64 * count → is_set v.items (64 * (j * count) + i) ≡ stays_at words.now count (j * count) i) }
@@ -133,7 +138,13 @@ fn dilate_rows(words: &[u64], none: &[u64], rows: usize, cols: usize, out: &mut 
 }
 
 /// The dilated rows of `cols` columns, `count` words, each.
-pub(crate) fn dilate_words(alloc: Global, words: &[u64], count: usize, rows: usize, cols: usize) -> Result<Vec<u64>, NoMemory>
+pub(crate) fn dilate_words(
+    alloc: Global,
+    words: &[u64],
+    count: usize,
+    rows: usize,
+    cols: usize,
+) -> Result<Vec<u64>, NoMemory>
     requires room { length words.now ≡ rows * count }
     requires few { cols ≤ 8192 }
     requires count { count ≡ words_of cols }
@@ -157,7 +168,11 @@ fn word_or_none(row: &[u64], at: usize) -> u64
 fn word_before(row: &[u64], at: usize) -> u64
     ensures { result ≡ word_before row.now at }
 {
-    if at == 0 { 0 } else { word_or_none(row, at - 1) }
+    if at == 0 {
+        0
+    } else {
+        word_or_none(row, at - 1)
+    }
 }
 
 /// Word `at` of a row that is moved up by some places.
@@ -168,7 +183,11 @@ fn moved_word(row: &[u64], by: usize, at: usize) -> u64
     if at < skipped {
         return 0;
     }
-    moved_up(word_before(row, at - skipped), word_or_none(row, at - skipped), by % 64)
+    moved_up(
+        word_before(row, at - skipped),
+        word_or_none(row, at - skipped),
+        by % 64,
+    )
 }
 
 /// Puts a row moved up by some places, as far as there is room.
@@ -206,7 +225,14 @@ fn put_moved_rows(words: &[u64], count: usize, rows: usize, by: usize, out: &mut
 }
 
 /// The rows of `count` words moved up by `by` places into rows of `wide` words, with `by` rows more before and after.
-pub(crate) fn widen_words(alloc: Global, words: &[u64], count: usize, rows: usize, by: usize, wide: usize) -> Result<Vec<u64>, NoMemory>
+pub(crate) fn widen_words(
+    alloc: Global,
+    words: &[u64],
+    count: usize,
+    rows: usize,
+    by: usize,
+    wide: usize,
+) -> Result<Vec<u64>, NoMemory>
     requires words { length words.now ≡ rows * count }
     requires rows { rows + 2 * by ≤ 8192 }
     requires wide { wide ≤ 128 }

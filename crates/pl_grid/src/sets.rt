@@ -36,7 +36,13 @@ impl Plane {
         ensures { IfOk result (λ p. p ≡ dilated self.now) }
     {
         let bounds = self.bounds;
-        let words = dilate_words(alloc, &self.words, bounds.row_words(), bounds.rows as usize, bounds.cols as usize)?;
+        let words = dilate_words(
+            alloc,
+            &self.words,
+            bounds.row_words(),
+            bounds.rows as usize,
+            bounds.cols as usize,
+        )?;
         Ok(Plane { bounds, words })
     }
 
@@ -46,7 +52,10 @@ impl Plane {
         ensures { IfOk result (λ p. p ≡ difference self.now other.now) }
     {
         let words = minus_words(alloc, &self.words, &other.words)?;
-        Ok(Plane { bounds: self.bounds, words })
+        Ok(Plane {
+            bounds: self.bounds,
+            words,
+        })
     }
 
     /// The cells that are filled in this plane or in another of the same box. Refused only for want of memory.
@@ -55,7 +64,10 @@ impl Plane {
         ensures { IfOk result (λ p. p ≡ union_of self.now other.now) }
     {
         let words = union_words(alloc, &self.words, &other.words)?;
-        Ok(Plane { bounds: self.bounds, words })
+        Ok(Plane {
+            bounds: self.bounds,
+            words,
+        })
     }
 
     /// The same filled cells in a box that has `by` columns and rows more on each side, where that is a box
@@ -66,7 +78,17 @@ impl Plane {
     {
         let bounds = self.bounds;
         let grown = bounds.grown(by);
-        let words = widen_words(alloc, &self.words, bounds.row_words(), bounds.rows as usize, by as usize, grown.row_words())?;
-        Ok(Plane { bounds: grown, words })
+        let words = widen_words(
+            alloc,
+            &self.words,
+            bounds.row_words(),
+            bounds.rows as usize,
+            by as usize,
+            grown.row_words(),
+        )?;
+        Ok(Plane {
+            bounds: grown,
+            words,
+        })
     }
 }

@@ -1,4 +1,4 @@
-use Rattle.std.proofs.Common.{◌≡◌, ◌+◌, ◌-◌, ◌*◌, ◌<◌, length, ◌∙◌, ◌&&◌, ap, arith}
+use Rattle.std.proofs.Common.{length, ◌∙◌, ◌&&◌, ap, arith}
 use Rattle.std.specs.Prelude.{nat_lt}
 use Rattle.pl_grid.specs.Packed.{comes_at}
 use Rattle.pl_grid.proofs.RowLemmas.{part_is, unchanged_before}

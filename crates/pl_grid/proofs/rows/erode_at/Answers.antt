@@ -1,4 +1,4 @@
-use Rattle.std.proofs.Common.{◌≡◌, ◌+◌, ◌-◌, ◌*◌, ◌<◌, length, ◌∙◌, arith}
+use Rattle.std.proofs.Common.{length, ◌∙◌, arith}
 use Rattle.pl_grid.specs.Packed.{stays_at}
 use Rattle.pl_grid.proofs.RowLemmas.{part_is, unchanged_before}
 use Rattle.pl_grid.proofs.RowParts.{stays_same}

@@ -1,4 +1,4 @@
-use Rattle.std.proofs.Common.{◌≡◌, ◌+◌, ◌-◌, ◌/◌, ◌%◌, arith, ◌∙◌, ap, cond}
+use Rattle.std.proofs.Common.{◌+◌, ◌-◌, ◌/◌, ◌%◌, arith, ◌∙◌, ap, cond}
 use Rattle.std.specs.Prelude.{nat_lt}
 use Rattle.pl_lanes.specs.Bits.{has_bit, word_before}
 use Rattle.pl_grid.proofs.RowParts.{moved_out, moved_is}

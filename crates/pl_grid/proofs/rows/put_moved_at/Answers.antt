@@ -1,4 +1,4 @@
-use Rattle.std.proofs.Common.{◌≡◌, ◌+◌, ◌-◌, ◌*◌, ◌<◌, length, arith}
+use Rattle.std.proofs.Common.{◌+◌, ◌-◌, arith}
 use Rattle.pl_grid.specs.Packed.{is_moved}
 use Rattle.pl_grid.proofs.RowLemmas.{part_is, part_length, unchanged_before, unchanged_after}
 use Rattle.pl_grid.proofs.rows.put_moved_at.Goals as goal

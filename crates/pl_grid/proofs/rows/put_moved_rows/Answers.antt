@@ -1,4 +1,4 @@
-use Rattle.std.proofs.Common.{◌+◌, ◌-◌, ◌*◌, take, drop, ap, ◌∙◌, arith}
+use Rattle.std.proofs.Common.{◌*◌, take, drop, ap, ◌∙◌, arith}
 use Rattle.pl_grid.specs.Packed.{is_moved}
 use Rattle.pl_grid.proofs.RowParts.{widened_none, widened_more, widened_all}
 use Rattle.pl_grid.proofs.rows.put_moved_rows.Goals as goal

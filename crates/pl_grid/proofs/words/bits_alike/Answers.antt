@@ -1,4 +1,4 @@
-use Rattle.std.proofs.Common.{◌≡◌, sym, ◌∙◌, ap, not, arith}
+use Rattle.std.proofs.Common.{sym, ◌∙◌, arith}
 use Rattle.pl_grid.proofs.WordLemmas.{alike_set, unset_after_set}
 use Rattle.pl_grid.proofs.words.bits_alike.Goals as goal
 

@@ -1,4 +1,4 @@
-use Rattle.std.proofs.Common.{◌≡◌, ◌==◌, ap}
+use Rattle.std.proofs.Common.{◌==◌, ap}
 use Rattle.std.proofs.lemmas.Nat.Bits.{shr_and_one}
 use Rattle.pl_lanes.specs.Bits.{has_bit}
 use Rattle.pl_grid.proofs.words.has_bit.Goals as goal

@@ -1,4 +1,4 @@
-use Rattle.std.proofs.Common.{◌≡◌, ◌<◌, ◌/◌, ◌%◌, get_or, ap, ◌∙◌, arith}
+use Rattle.std.proofs.Common.{◌<◌, ◌/◌, ◌%◌, get_or, ap, ◌∙◌, arith}
 use Rattle.pl_lanes.specs.Bits.{has_bit}
 use Rattle.pl_lanes.proofs.BitLemmas.{has_bit-or}
 use Rattle.pl_grid.proofs.words.put_bits.Goals as goal

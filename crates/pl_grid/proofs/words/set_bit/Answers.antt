@@ -1,4 +1,3 @@
-use Rattle.std.proofs.Common.{◌/◌, ◌%◌, arith}
 use Rattle.pl_grid.proofs.RowLemmas.{set_in_words}
 use Rattle.pl_grid.proofs.words.set_bit.Goals as goal
 

@@ -1,4 +1,4 @@
-use Rattle.std.proofs.Common.{◌≡◌, ◌+◌, ◌-◌, ◌*◌, ◌<◌, ◌≤◌, arith}
+use Rattle.std.proofs.Common.{arith}
 use Rattle.pl_grid.proofs.RowLemmas.{toggled_part, unchanged_before, unchanged_after}
 use Rattle.pl_grid.proofs.words.toggle_at.Goals as goal
 

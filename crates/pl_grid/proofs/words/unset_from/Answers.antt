@@ -1,4 +1,4 @@
-use Rattle.std.proofs.Common.{◌≡◌, sym, ◌∙◌, ◌<◌, ◌-◌, min, arith}
+use Rattle.std.proofs.Common.{sym, ◌∙◌, ◌<◌, ◌-◌, min, arith}
 use Rattle.pl_grid.proofs.WordLemmas.{unset_some, has_bit-down}
 use Rattle.pl_grid.proofs.words.unset_from.Goals as goal
 

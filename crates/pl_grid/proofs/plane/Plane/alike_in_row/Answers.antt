@@ -1,4 +1,4 @@
-use Rattle.std.proofs.Common.{◌≡◌, ap, sym, ◌∙◌, w32, arith}
+use Rattle.std.proofs.Common.{ap, sym, ◌∙◌, w32, arith}
 use Rattle.std.proofs.lemmas.Int.{to_z-of_z}
 use Rattle.pl_grid.specs.Extent.{Extent}
 use Rattle.pl_grid.proofs.RowCells.{alike_cells}

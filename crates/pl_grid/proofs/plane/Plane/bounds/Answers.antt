@@ -1,4 +1,4 @@
-use Rattle.std.proofs.Common.{◌≡◌, subst}
+use Rattle.std.proofs.Common.{subst}
 use Rattle.pl_grid.specs.Planes.{Cells, IsFull}
 use Rattle.pl_grid.proofs.PackedLemmas.{IsFull-packed}
 use Rattle.pl_grid.proofs.plane.Plane.bounds.Goals as goal

@@ -1,4 +1,4 @@
-use Rattle.std.proofs.Common.{◌≡◌, ◌∙◌}
+use Rattle.std.proofs.Common.{◌∙◌}
 use Rattle.pl_grid.proofs.PackedLemmas.{cell_at_bit}
 use Rattle.pl_grid.proofs.plane.Plane.cell.Goals as goal
 

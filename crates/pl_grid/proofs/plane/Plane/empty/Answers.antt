@@ -1,4 +1,4 @@
-use Rattle.std.proofs.Common.{◌≡◌, false}
+use Rattle.std.proofs.Common.{false}
 use Rattle.pl_grid.specs.Packed.{bit_place}
 use Rattle.pl_grid.proofs.PackedLemmas.{packed_is, is_set-zeros, IsPacked-zeros}
 use Rattle.pl_grid.proofs.plane.Plane.empty.Goals as goal

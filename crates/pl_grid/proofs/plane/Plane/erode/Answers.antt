@@ -1,5 +1,4 @@
-use Rattle.std.proofs.Common.{◌≡◌, ℕ, ◌*◌, ◌&&◌, List, length, ap, ◌∙◌}
-use Rattle.std.specs.Prelude.{nat_lt}
+use Rattle.std.proofs.Common.{◌*◌, length, ap, ◌∙◌}
 use Rattle.pl_grid.specs.Extent.{Extent}
 use Rattle.pl_grid.specs.Packed.{stays_at, words_of}
 use Rattle.pl_grid.proofs.RowParts.{at_call}

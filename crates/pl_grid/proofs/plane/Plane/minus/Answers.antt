@@ -1,4 +1,4 @@
-use Rattle.std.proofs.Common.{◌≡◌, ◌&&◌, not}
+use Rattle.std.proofs.Common.{◌&&◌, not}
 use Rattle.pl_grid.proofs.PackedLemmas.{both_is}
 use Rattle.pl_grid.proofs.plane.Plane.minus.Goals as goal
 

@@ -1,8 +1,8 @@
-use Rattle.std.proofs.Common.{◌≡◌, ℕ, List, length, ap, sym, subst, ◌∙◌, FitsSigned, w32}
+use Rattle.std.proofs.Common.{ℕ, List, length, ap, sym, subst, ◌∙◌, FitsSigned, w32}
 use Rattle.std.proofs.lemmas.Int.{to_z-of_z}
 use Rattle.std.proofs.lemmas.List.{with_items_is}
 use Rattle.pl_grid.specs.Packed.{packed, IsPacked}
-use Rattle.pl_grid.proofs.Toggling.{IsToggled, toggled_from, toggled_is, IsPacked-toggled}
+use Rattle.pl_grid.proofs.Toggling.{toggled_from, toggled_is, IsPacked-toggled}
 use Rattle.pl_grid.proofs.Setting.{row_some}
 use Rattle.pl_grid.proofs.plane.Plane.toggle_row.Goals as goal
 

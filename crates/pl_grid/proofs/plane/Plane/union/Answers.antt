@@ -1,4 +1,4 @@
-use Rattle.std.proofs.Common.{◌≡◌, ◌||◌}
+use Rattle.std.proofs.Common.{◌||◌}
 use Rattle.pl_grid.proofs.PackedLemmas.{both_is}
 use Rattle.pl_grid.proofs.plane.Plane.union.Goals as goal
 

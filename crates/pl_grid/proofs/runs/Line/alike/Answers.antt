@@ -1,4 +1,4 @@
-use Rattle.std.proofs.Common.{◌+◌, FitsSigned, w32, rules}
+use Rattle.std.proofs.Common.{FitsSigned, w32, rules}
 use Rattle.std.proofs.lemmas.Int.{to_z-of_z}
 use Rattle.pl_grid.proofs.RunLemmas.{alike_line}
 use Rattle.pl_grid.proofs.runs.Line.alike.Goals as goal
