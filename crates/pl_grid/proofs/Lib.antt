@@ -1,4 +1,11 @@
+pub mod Cases
+pub mod PackedLemmas
 pub mod PlaneLemmas
+pub mod RowCells
+pub mod RowLemmas
+pub mod RowParts
 pub mod RunLemmas
 pub mod Setting
 pub mod StrokeBounds
+pub mod Toggling
+pub mod WordLemmas

@@ -1,12 +1,12 @@
 -- The runs of one line, found from its first cell on.
-use Rattle.std.proofs.Common.{◌≡◌, ℤ, ℕ, pos, ◌+ℤ◌, ◌+◌, ◌-◌, ◌<◌, ◌≤◌, Bool, true, false, zero, suc, List, [], ◌∷◌, ◌++◌, length, map, get_or, drop, refl, sym, ◌∙◌, ap, arith, append_assoc, append-nil, add-one, add-zero, zero-add, inl, inr}
+use Rattle.std.proofs.Common.{◌≡◌, ℤ, ℕ, pos, ◌+ℤ◌, ◌+◌, ◌-◌, ◌<◌, ◌≤◌, Bool, true, false, zero, suc, List, [], ◌∷◌, ◌++◌, length, map, get_or, drop, refl, sym, ◌∙◌, ap, arith, append_assoc, append-nil, add-one, add-zero, zero-add, inl, inr, subst}
 use Rattle.std.proofs.lemmas.List.{get_or-drop, get_or_past, length-drop}
 use Rattle.std.proofs.lemmas.Grind.{common_steps, flat_map-append}
 use Rattle.std.specs.List.{range_with_len, filter, prefix_len, flat_map}
 use Rattle.std.proofs.lemmas.List.Sums.{prefix_len_passes, prefix_len_stops, prefix_len-drop_yes, prefix_len-le-length}
 use Rattle.std.proofs.lemmas.List.FromFn.{get_or-map-range_with_len, length-map-range_with_len, map-range_with_len_more}
 use Rattle.std.proofs.lemmas.Bool.{cases_lt}
-use Rattle.pl_grid.specs.Planes.{Cells}
+use Rattle.pl_grid.specs.Planes.{Cells, filled}
 use Rattle.pl_grid.specs.Strokes.{starts_run, run_from, runs_in, lines_of, runs_of}
 use Rattle.pl_grid.specs.Lines.{filled_on, first_line, first_place, line_count, line_length, line_cells, line_runs, run_between}
 use Rattle.pl_grid.specs.declared.stroke.Axis.{Axis}
@@ -22,6 +22,17 @@ length-line_cells axis p line = length-map-range_with_len (λ i. filled_on axis 
 pub get_or-line_cells : (axis : Axis) (p : Cells) (line : ℤ) (i : ℕ) → i < line_length axis p.bounds → get_or (line_cells axis p line) i false ≡ filled_on axis p line (first_place axis p.bounds +ℤ pos i)
 unfolding line_cells
 get_or-line_cells axis p line i less = get_or-map-range_with_len (λ k. filled_on axis p line (first_place axis p.bounds +ℤ pos k)) 0 (line_length axis p.bounds) i i false less (omega arith)
+
+alike_row : (p : Cells) (line : ℤ) (number n : ℕ) → number + n ≤ p.bounds.cols → 0 < n → ((k : ℕ) → k < n → filled p (p.bounds.x0 +ℤ pos (number + k)) line ≡ filled p (p.bounds.x0 +ℤ pos number) line)
+    → (k : ℕ) → number ≤ k → k < number + n → get_or (line_cells Rows p line) k false ≡ get_or (line_cells Rows p line) number false
+alike_row p line number n within some h k low high =
+    let place : k ≡ number + (k - number) = omega arith in
+    get_or-line_cells Rows p line k (omega arith) ∙ ap (λ m. filled p (p.bounds.x0 +ℤ pos m) line) place ∙ h (k - number) (omega arith) ∙ sym (get_or-line_cells Rows p line number (omega arith))
+
+-- cells of a row that are alike, as cells of a line along rows
+pub alike_line : (axis : Axis) (p : Cells) (line : ℤ) (number n : ℕ) → axis ≡ Rows → number + n ≤ p.bounds.cols → 0 < n → ((k : ℕ) → k < n → filled p (p.bounds.x0 +ℤ pos (number + k)) line ≡ filled p (p.bounds.x0 +ℤ pos number) line)
+    → (k : ℕ) → number ≤ k → k < number + n → get_or (line_cells axis p line) k false ≡ get_or (line_cells axis p line) number false
+alike_line axis p line number n e within some h k low high = subst (λ (a : Axis). get_or (line_cells a p line) k false ≡ get_or (line_cells a p line) number false) (sym e) (alike_row p line number n within some h k low high)
 
 -- ---- places where no run starts
 
@@ -106,6 +117,22 @@ scanned_empty line low cells old out at s less e = record {
   free = starts_after cells at e;
   within = omega arith;
 }
+
+-- several empty cells
+pub scanned_skip : (line low : ℤ) (cells : List Bool) (old out : List Run) (at n : ℕ) → Scanned line low cells old out at → at + n ≤ length cells → ((k : ℕ) → at ≤ k → k < at + n → get_or cells k false ≡ false) → Scanned line low cells old out (at + n)
+scanned_skip line low cells old out at zero s within h = subst (Scanned line low cells old out) (sym (add-zero at)) s
+scanned_skip line low cells old out at (suc n) s within h =
+    let next : at + n + 1 ≡ at + suc n = omega arith in
+    subst (Scanned line low cells old out) next
+    (scanned_empty line low cells old out (at + n) (scanned_skip line low cells old out at n s (omega arith) (λ k from to. h k from (omega arith))) (omega arith) (h (at + n) (omega arith) (omega arith)))
+
+-- several filled cells
+pub filled_more : (cells : List Bool) (at n : ℕ) → at + n ≤ length cells → ((k : ℕ) → at ≤ k → k < at + n → get_or cells k false ≡ true) → at + n + prefix_len (λ b. b) (drop (at + n) cells) ≡ at + prefix_len (λ b. b) (drop at cells)
+filled_more cells at zero within h = ap (λ k. k + prefix_len (λ b. b) (drop k cells)) (add-zero at)
+filled_more cells at (suc n) within h =
+    let next : at + suc n ≡ at + n + 1 = omega arith in
+    ap (λ k. k + prefix_len (λ b. b) (drop k cells)) next
+    ∙ omega (arith, prefix_len-drop_yes (λ b. b) cells (at + n) false (omega arith) (h (at + n) (omega arith) (omega arith)), filled_more cells at n (omega arith) (λ k from to. h k from (omega arith)))
 
 -- the run of the starts at a place: its cells are one line of filled ones, and none of the others starts a run
 starts_of_run : (cells : List Bool) (at end : ℕ) → starts_run cells at ≡ true → IsEnd cells at end → filter (starts_run cells) (range_with_len at (length cells - at)) ≡ at ∷ filter (starts_run cells) (range_with_len end (length cells - end))

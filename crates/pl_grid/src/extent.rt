@@ -1,6 +1,6 @@
 //! The box of a plane's cells.
-ghost use Rattle.std.specs.Prelude.{◌≡◌, ◌+◌, ◌-ℤ◌, ◌<◌, ◌*◌, ◌/◌, ◌%◌, ◌+ℤ◌, pos, IfSome};
-ghost use Rattle.pl_grid.specs.Extent.{offset_in, place_of, column_of, row_of, IsNear, IsExtent, grown};
+ghost use Rattle.std.specs.Prelude.{◌≡◌, ◌-ℤ◌, ◌<◌, IfSome};
+ghost use Rattle.pl_grid.specs.Extent.{offset_in, column_of, row_of, IsExtent, grown};
 
 use std::marker::Model;
 
@@ -27,16 +27,6 @@ impl Model for Box2 {
 }
 
 impl Box2 {
-    /// The number of the cell `x` `y` in row order, where the box has it.
-    pub(crate) fn place(self, x: i32, y: i32) -> Option<usize>
-        ensures value { result ≡ place_of self x y }
-        ensures below { IfSome result (λ k. k < self.cols * self.rows) }
-    {
-        let column = offset(x, self.x0, self.cols)?;
-        let row = offset(y, self.y0, self.rows)?;
-        Some(row * self.cols as usize + column)
-    }
-
     /// The box that has `by` columns and rows more on each side. That must be a box: at most 8,192 columns and
     /// rows, its corner from -65,536 to 65,536.
     pub fn grown(self, by: u32) -> Box2
@@ -65,37 +55,6 @@ impl Box2 {
         ensures below { IfSome result (λ j. j < self.rows) }
     {
         offset(y, self.y0, self.rows)
-    }
-
-    /// The number of a cell in row order.
-    pub(crate) fn place_at(self, column: usize, row: usize) -> usize
-        requires column { column < self.cols }
-        requires row { row < self.rows }
-        ensures value { result ≡ row * self.cols + column }
-        ensures below { result < self.cols * self.rows }
-    {
-        let _rows = self.rows;
-        row * self.cols as usize + column
-    }
-
-    /// How many cells there are.
-    pub(crate) fn count(self) -> usize
-        ensures { result ≡ self.cols * self.rows }
-    {
-        self.cols as usize * self.rows as usize
-    }
-
-    /// The cell with this number in row order.
-    pub(crate) fn cell(self, place: usize) -> (i32, i32)
-        requires { place < self.cols * self.rows }
-        ensures column { result.0 ≡ self.x0 +ℤ pos (place % self.cols) }
-        ensures row { result.1 ≡ self.y0 +ℤ pos (place / self.cols) }
-        ensures near { IsNear result.0 result.1 }
-    {
-        let cols = self.cols as usize;
-        let column = (place % cols) as i32;
-        let row = (place / cols) as i32;
-        (self.x0 + column, self.y0 + row)
     }
 }
 

@@ -4,11 +4,13 @@
 pub mod extent;
 pub mod lists;
 pub mod plane;
+mod rows;
 mod runs;
 pub mod sets;
 pub mod stroke;
 #[cfg(test)]
 mod tests;
+mod words;
 
 pub use extent::Box2;
 pub use lists::{Loop, Planes};

@@ -1,5 +1,5 @@
 //! The runs of filled cells along the lines of a plane.
-ghost use Rattle.std.specs.Prelude.{◌≡◌, ◌+◌, ◌<◌, ◌≤◌, ◌++◌, ◌+ℤ◌, pos, false, slice_index_or, drop, IfOk};
+ghost use Rattle.std.specs.Prelude.{◌≡◌, ◌+◌, ◌<◌, ◌≤◌, ◌++◌, ◌+ℤ◌, pos, ℕ, false, slice_index_or, drop, IfOk};
 ghost use Rattle.std.specs.List.{prefix_len};
 ghost use Rattle.pl_grid.specs.Extent.{Extent};
 ghost use Rattle.pl_grid.specs.Lines.{line_count, line_length, first_line, first_place, filled_on, line_cells, line_runs, run_between};
@@ -109,7 +109,7 @@ impl Line<'_> {
         let mut at = 0;
         while at < length {
             if !self.is_filled(at) {
-                at += 1;
+                at += self.alike(at);
                 continue;
             }
             let end = self.run_end(at);
@@ -141,7 +141,7 @@ impl Line<'_> {
         let length = self.length();
         let mut end = first;
         while end < length && self.is_filled(end) {
-            end += 1;
+            end += self.alike(end);
         }
         end
     }
@@ -159,6 +159,20 @@ impl Line<'_> {
         ensures { result ≡ slice_index_or (line_cells self.now.along self.now.plane.now self.now.line) number false }
     {
         self.is_filled_on(self.plane.bounds().place_on(self.along, number))
+    }
+
+    /// How many cells from one on are known to be like it, the first among them. Along rows they are those of
+    /// its word.
+    fn alike(&self, number: u32) -> u32
+        requires { number < line_length self.now.along self.now.plane.now.bounds }
+        ensures some { 0 < result }
+        ensures within { number + result ≤ line_length self.now.along self.now.plane.now.bounds }
+        ensures alike { (k : ℕ) → number ≤ k → k < number + result → slice_index_or (line_cells self.now.along self.now.plane.now self.now.line) k false ≡ slice_index_or (line_cells self.now.along self.now.plane.now self.now.line) number false }
+    {
+        match self.along {
+            Axis::Rows => self.plane.alike_in_row(number, self.line),
+            Axis::Columns => 1,
+        }
     }
 
     /// The cell at a place along the line is filled.

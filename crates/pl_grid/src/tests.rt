@@ -60,3 +60,62 @@ fn planes_are_made_of_whole_planes(rt: HostRuntime) -> Result<(), Fail> {
     assert!(rt; wide.get(1, 1) && wide.bounds().cols == 5, "widened");
     Ok(())
 }
+
+#[test]
+fn dilate_keeps_to_the_box(rt: HostRuntime) -> Result<(), Fail> {
+    let alloc = rt.alloc();
+    let bounds = Box2 {
+        x0: 0,
+        y0: 0,
+        cols: 70,
+        rows: 1,
+    };
+    let mut full = Plane::empty(alloc, bounds)?;
+    full.toggle_row(70, 0);
+    let dilated = full.dilate(alloc)?;
+    let runs = dilated.runs(alloc, Axis::Rows)?;
+    assert_eq!(rt; runs.as_slice(), [run(0, 0, 69)].as_slice(), "the 70 cells");
+    assert!(rt; !dilated.get(70, 0), "none after the last");
+    Ok(())
+}
+
+#[test]
+fn erode_leaves_the_middle_row(rt: HostRuntime) -> Result<(), Fail> {
+    let alloc = rt.alloc();
+    let bounds = Box2 {
+        x0: 0,
+        y0: 0,
+        cols: 70,
+        rows: 3,
+    };
+    let mut middle = Plane::empty(alloc, bounds)?;
+    middle.toggle_row(70, 1);
+    let full = middle.dilate(alloc)?;
+    let eroded = full.erode(alloc)?;
+    let runs = eroded.runs(alloc, Axis::Rows)?;
+    assert_eq!(rt;
+        runs.as_slice(),
+        [run(1, 1, 68)].as_slice(),
+        "cells 1 to 68"
+    );
+    Ok(())
+}
+
+#[test]
+fn rows_are_flipped_and_moved_over_a_word_end(rt: HostRuntime) -> Result<(), Fail> {
+    let alloc = rt.alloc();
+    let bounds = Box2 {
+        x0: 0,
+        y0: 0,
+        cols: 70,
+        rows: 1,
+    };
+    let mut plane = Plane::empty(alloc, bounds)?;
+    plane.toggle_row(65, 0);
+    let runs = plane.runs(alloc, Axis::Rows)?;
+    assert_eq!(rt; runs.as_slice(), [run(0, 0, 64)].as_slice(), "flipped");
+    let wide = plane.widened(alloc, 61)?;
+    let runs = wide.runs(alloc, Axis::Rows)?;
+    assert_eq!(rt; runs.as_slice(), [run(0, 0, 64)].as_slice(), "moved");
+    Ok(())
+}

@@ -1,0 +1,7 @@
+use Rattle.std.proofs.Common.{◌≡◌, ◌+◌, ◌*◌, ◌<◌, ℕ, length}
+use Rattle.pl_grid.specs.Packed.{stays_at}
+use Rattle.pl_lanes.specs.Bits.{is_set}
+use Rattle.pl_grid.proofs.rows.erode_rows.Given as goal
+
+abbrev pub invariant-loop-row : goal.invariant-loop-row
+invariant-loop-row l = (j i : ℕ) → j < l.row → i < 64 * length l.none → is_set l.out (64 * (j * length l.none) + i) ≡ stays_at l.words (length l.none) (j * length l.none) i
