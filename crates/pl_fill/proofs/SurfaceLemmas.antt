@@ -8,15 +8,11 @@ use Rattle.std.proofs.lemmas.List.{get_or_past, get_or_default}
 use Rattle.std.proofs.lemmas.List.Folds.{list_any-append, list_any_at, list_any_more}
 use Rattle.std.proofs.lemmas.List.FromFn.{length-range_with_len, get_or-range_with_len}
 use Rattle.pl_grid.specs.Extent.{Extent, place_of}
-use Rattle.pl_grid.specs.Planes.{Cells, filled, value_at, plane_of, IsFull, empty_plane, difference, union_of}
+use Rattle.pl_grid.specs.Planes.{Cells, filled, value_at, plane_of, IsFull, empty_plane, difference}
 use Rattle.pl_grid.proofs.PlaneLemmas.{same_tests, filled_in, filled_at, is_plane_of}
 use Rattle.pl_fill.specs.Surfaces.{layer_at, has_above, has_below, is_bare_above, is_bare_below, is_bare, solid_of, sparse_of, top_of}
 
 -- ---- tests
-
-or_shared : (a b c : Bool) → ((a && b) || (a && c)) ≡ (a && (b || c))
-or_shared true b c = refl
-or_shared false b c = refl
 
 or_false : (a : Bool) → (a || false) ≡ a
 or_false true = refl
@@ -36,9 +32,22 @@ or_swap true false = refl
 or_swap false true = refl
 or_swap false false = refl
 
-and_not_and : (a b : Bool) → (a && not (a && b)) ≡ (a && not b)
-and_not_and true b = refl
-and_not_and false b = refl
+and_not_not : (a b : Bool) → (a && not (a && not b)) ≡ (a && b)
+and_not_not true true = refl
+and_not_not true false = refl
+and_not_not false b = refl
+
+-- what is left of a test after two times the rest of it was taken away
+taken_twice : (f a l : Bool) → ((f && not a) && not ((f && not a) && not l)) ≡ (f && not (a || not l))
+taken_twice true true l = refl
+taken_twice true false true = refl
+taken_twice true false false = refl
+taken_twice false a l = refl
+
+and_not_or : (f a b : Bool) → ((f && not a) && not b) ≡ (f && not (a || b))
+and_not_or true true b = refl
+and_not_or true false b = refl
+and_not_or false a b = refl
 
 -- ---- planes of tests
 
@@ -52,35 +61,39 @@ y_at b j = b.y0 +ℤ pos j
 pub own_plane : (p : Cells) → IsFull p → p ≡ plane_of p.bounds (filled p)
 own_plane p full = is_plane_of p (filled p) full (λ i j hi hj. sym (filled_at p (x_at p.bounds i) (y_at p.bounds j) i j hi hj refl refl))
 
-union_of_tests : (b : Extent) (t s u : ℤ → ℤ → Bool) → ((x y : ℤ) → (t x y || s x y) ≡ u x y) → union_of (plane_of b t) (plane_of b s) ≡ plane_of b u
-union_of_tests b t s u h =
-    same_tests b (λ x y. filled (plane_of b t) x y || filled (plane_of b s) x y) u (λ i j hi hj.
-    ap (λ v. v || filled (plane_of b s) (x_at b i) (y_at b j)) (filled_in b t i j hi hj)
-    ∙ ap (λ v. t (x_at b i) (y_at b j) || v) (filled_in b s i j hi hj)
-    ∙ h (x_at b i) (y_at b j))
-
 left_by_test : (p : Cells) (t u : ℤ → ℤ → Bool) → ((x y : ℤ) → (filled p x y && not (t x y)) ≡ u x y) → difference p (plane_of p.bounds t) ≡ plane_of p.bounds u
 left_by_test p t u h =
     same_tests p.bounds (λ x y. filled p x y && not (filled (plane_of p.bounds t) x y)) u (λ i j hi hj.
     ap (λ v. filled p (x_at p.bounds i) (y_at p.bounds j) && not v) (filled_in p.bounds t i j hi hj)
     ∙ h (x_at p.bounds i) (y_at p.bounds j))
 
--- ---- the cells that one of some layers lacks
+-- ---- the cells that each of some layers has
 
-abbrev pub lacked_test : Cells → List Cells → ℤ → ℤ → Bool
-lacked_test p layers x y = filled p x y && list_any (λ q. not (filled q x y)) layers
+abbrev pub kept_test : Cells → List Cells → ℤ → ℤ → Bool
+kept_test p layers x y = filled p x y && not (list_any (λ q. not (filled q x y)) layers)
 
-pub lacked_none : (p : Cells) → empty_plane p.bounds ≡ plane_of p.bounds (lacked_test p [])
-lacked_none p = same_tests p.bounds (λ _ _. false) (lacked_test p []) (λ i j hi hj. sym (and_false (filled p (x_at p.bounds i) (y_at p.bounds j))))
+pub kept_none : (p : Cells) → IsFull p → p ≡ plane_of p.bounds (kept_test p [])
+kept_none p full = own_plane p full ∙ same_tests p.bounds (filled p) (kept_test p []) (λ i j hi hj. sym (and_true (filled p (x_at p.bounds i) (y_at p.bounds j))))
 
-pub lacked_more : (p : Cells) (layers : List Cells) (i : ℕ) (lacked more next layer : Cells) → lacked ≡ plane_of p.bounds (lacked_test p (take i layers)) → i < length layers → layer ≡ get_or layers i layer → more ≡ difference p layer → next ≡ union_of lacked more → next ≡ plane_of p.bounds (lacked_test p (take (i + 1) layers))
-lacked_more p layers i lacked more next layer was less here left now =
+-- a test's plane without what is left of it outside a layer
+kept_twice : (b : Extent) (t u : ℤ → ℤ → Bool) (layer : Cells) → ((x y : ℤ) → (t x y && not (t x y && not (filled layer x y))) ≡ u x y) → difference (plane_of b t) (difference (plane_of b t) layer) ≡ plane_of b u
+kept_twice b t u layer h =
+    let K : Cells = plane_of b t in
+    let L : ℤ → ℤ → Bool = λ x y. filled K x y && not (filled layer x y) in
+    same_tests b (λ x y. filled K x y && not (filled (plane_of b L) x y)) u (λ i j hi hj.
+    ap (λ v. filled K (x_at b i) (y_at b j) && not v) (filled_in b L i j hi hj)
+    ∙ ap (λ v. v && not (v && not (filled layer (x_at b i) (y_at b j)))) (filled_in b t i j hi hj)
+    ∙ h (x_at b i) (y_at b j))
+
+pub kept_more : (p : Cells) (layers : List Cells) (i : ℕ) (kept lost next layer : Cells) → kept ≡ plane_of p.bounds (kept_test p (take i layers)) → i < length layers → layer ≡ get_or layers i layer → lost ≡ difference kept layer → next ≡ difference kept lost → next ≡ plane_of p.bounds (kept_test p (take (i + 1) layers))
+kept_more p layers i kept lost next layer was less here out now =
     now
-    ∙ ap (λ q. union_of q more) was
-    ∙ ap (λ q. union_of (plane_of p.bounds (lacked_test p (take i layers))) q) (left ∙ ap (difference p) here)
-    ∙ union_of_tests p.bounds (lacked_test p (take i layers)) (λ x y. filled p x y && not (filled (get_or layers i layer) x y)) (lacked_test p (take (i + 1) layers)) (λ x y.
-    or_shared (filled p x y) (list_any (λ q. not (filled q x y)) (take i layers)) (not (filled (get_or layers i layer) x y))
-    ∙ ap (λ v. filled p x y && v) (sym (list_any_more (λ q. not (filled q x y)) layers i layer less)))
+    ∙ ap (difference kept) out
+    ∙ ap (λ k. difference k (difference k layer)) was
+    ∙ kept_twice p.bounds (kept_test p (take i layers)) (kept_test p (take (i + 1) layers)) layer (λ x y.
+    taken_twice (filled p x y) (list_any (λ q. not (filled q x y)) (take i layers)) (filled layer x y)
+    ∙ ap (λ q. filled p x y && not (list_any (λ r. not (filled r x y)) (take i layers) || not (filled q x y))) here
+    ∙ ap (λ v. filled p x y && not v) (sym (list_any_more (λ q. not (filled q x y)) layers i layer less)))
 
 -- ---- a layer that does not exist
 
@@ -149,11 +162,11 @@ below_from slices k (suc n) x y fits some =
 
 -- ---- solid, sparse and top
 
--- where a layer of the window does not exist, all cells are solid
-pub solid_all : (slices : List Cells) (p : Cells) (k top bottom : ℕ) → k < length slices → (k < bottom) ⊎ (length slices ≤ k + top) → plane_of p.bounds (filled p) ≡ solid_of slices p k top bottom
-solid_all slices p k top bottom here past =
-    same_tests p.bounds (filled p) (λ x y. filled p x y && is_bare slices k top bottom x y) (λ i j hi hj.
-    sym (ap (λ v. filled p (x_at p.bounds i) (y_at p.bounds j) && v) (all (x_at p.bounds i) (y_at p.bounds j)) ∙ and_true (filled p (x_at p.bounds i) (y_at p.bounds j))))
+-- where a layer of the window does not exist, no cell is sparse
+pub sparse_none : (slices : List Cells) (p : Cells) (k top bottom : ℕ) → k < length slices → (k < bottom) ⊎ (length slices ≤ k + top) → empty_plane p.bounds ≡ sparse_of slices p k top bottom
+sparse_none slices p k top bottom here past =
+    same_tests p.bounds (λ _ _. false) (λ x y. filled p x y && not (is_bare slices k top bottom x y)) (λ i j hi hj.
+    sym (ap (λ v. filled p (x_at p.bounds i) (y_at p.bounds j) && not v) (all (x_at p.bounds i) (y_at p.bounds j)) ∙ and_false (filled p (x_at p.bounds i) (y_at p.bounds j))))
   where
     all : (x y : ℤ) → is_bare slices k top bottom x y ≡ true
     all x y =
@@ -162,20 +175,25 @@ solid_all slices p k top bottom here past =
           | inr high ↦ or_right (is_bare_below slices k bottom x y) (is_bare_above slices k top x y) (bare_past_top slices k top x y here high)
         ]
 
--- the cells that a layer below or a layer above lacks
-pub solid_some : (slices : List Cells) (p below above : Cells) (k top bottom : ℕ) (low high : List Cells) → bottom ≤ k → k + top < length slices → low ≡ take bottom (drop (k - bottom) slices) → high ≡ take top (drop (k + 1) slices) → below ≡ plane_of p.bounds (lacked_test p low) → above ≡ plane_of p.bounds (lacked_test p high) → union_of below above ≡ solid_of slices p k top bottom
-solid_some slices p below above k top bottom low high fits_low fits_high is_low is_high is_below is_above =
-    ap (λ q. union_of q above) (is_below ∙ ap (λ qs. plane_of p.bounds (lacked_test p qs)) is_low)
-    ∙ ap (λ q. union_of (plane_of p.bounds (lacked_test p (take bottom (drop (k - bottom) slices)))) q) (is_above ∙ ap (λ qs. plane_of p.bounds (lacked_test p qs)) is_high)
-    ∙ union_of_tests p.bounds (lacked_test p (take bottom (drop (k - bottom) slices))) (lacked_test p (take top (drop (k + 1) slices))) (λ x y. filled p x y && is_bare slices k top bottom x y) (λ x y.
-    or_shared (filled p x y) (list_any (λ q. not (filled q x y)) (take bottom (drop (k - bottom) slices))) (list_any (λ q. not (filled q x y)) (take top (drop (k + 1) slices)))
-    ∙ ap (λ v. filled p x y && (v || list_any (λ q. not (filled q x y)) (take top (drop (k + 1) slices)))) (sym (below_from slices k bottom x y fits_low (omega arith)))
-    ∙ ap (λ v. filled p x y && (is_bare_below slices k bottom x y || v)) (sym (above_from slices k 1 top x y (omega arith))))
+-- the cells that each layer below and each layer above has
+pub sparse_some : (slices : List Cells) (p below : Cells) (k top bottom : ℕ) (low high : List Cells) → bottom ≤ k → k + top < length slices → low ≡ take bottom (drop (k - bottom) slices) → high ≡ take top (drop (k + 1) slices) → below ≡ plane_of p.bounds (kept_test p low) → plane_of below.bounds (kept_test below high) ≡ sparse_of slices p k top bottom
+sparse_some slices p below k top bottom low high fits_low fits_high is_low is_high is_below =
+    let down : List Cells = take bottom (drop (k - bottom) slices) in
+    let up : List Cells = take top (drop (k + 1) slices) in
+    ap (λ q. plane_of q.bounds (kept_test q high)) (is_below ∙ ap (λ qs. plane_of p.bounds (kept_test p qs)) is_low)
+    ∙ ap (λ qs. plane_of p.bounds (kept_test (plane_of p.bounds (kept_test p down)) qs)) is_high
+    ∙ same_tests p.bounds (kept_test (plane_of p.bounds (kept_test p down)) up) (λ x y. filled p x y && not (is_bare slices k top bottom x y)) (λ i j hi hj.
+    let x : ℤ = x_at p.bounds i in
+    let y : ℤ = y_at p.bounds j in
+    ap (λ v. v && not (list_any (λ q. not (filled q x y)) up)) (filled_in p.bounds (kept_test p down) i j hi hj)
+    ∙ and_not_or (filled p x y) (list_any (λ q. not (filled q x y)) down) (list_any (λ q. not (filled q x y)) up)
+    ∙ ap (λ v. filled p x y && not (v || list_any (λ q. not (filled q x y)) up)) (sym (below_from slices k bottom x y fits_low (omega arith)))
+    ∙ ap (λ v. filled p x y && not (is_bare_below slices k bottom x y || v)) (sym (above_from slices k 1 top x y (omega arith))))
 
--- what is not solid is sparse
-pub sparse_left : (slices : List Cells) (p : Cells) (k top bottom : ℕ) → difference p (solid_of slices p k top bottom) ≡ sparse_of slices p k top bottom
-sparse_left slices p k top bottom =
-    left_by_test p (λ x y. filled p x y && is_bare slices k top bottom x y) (λ x y. filled p x y && not (is_bare slices k top bottom x y)) (λ x y. and_not_and (filled p x y) (is_bare slices k top bottom x y))
+-- what is not sparse is solid
+pub solid_left : (slices : List Cells) (p : Cells) (k top bottom : ℕ) → difference p (sparse_of slices p k top bottom) ≡ solid_of slices p k top bottom
+solid_left slices p k top bottom =
+    left_by_test p (λ x y. filled p x y && not (is_bare slices k top bottom x y)) (λ x y. filled p x y && is_bare slices k top bottom x y) (λ x y. and_not_not (filled p x y) (is_bare slices k top bottom x y))
 
 -- on the last layer all cells are on top
 pub top_all : (slices : List Cells) (p : Cells) (k : ℕ) → length slices ≤ k + 1 → plane_of p.bounds (filled p) ≡ top_of slices p k

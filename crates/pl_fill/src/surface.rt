@@ -39,7 +39,7 @@ pub fn surfaces(
     let k = k as usize;
     let slices = slices.planes();
     let inner = &inner.planes()[k];
-    let solid = solid_cells(
+    let sparse = sparse_cells(
         alloc,
         inner,
         slices,
@@ -47,13 +47,13 @@ pub fn surfaces(
         usize::from(top),
         usize::from(bottom),
     )?;
-    let sparse = inner.minus(alloc, &solid)?;
+    let solid = inner.minus(alloc, &sparse)?;
     let top = top_cells(alloc, inner, slices, k)?;
     Ok(SurfaceSet { solid, sparse, top })
 }
 
-/// The cells of a layer's inner plane that one of the slices next to it lacks: of `bottom` below and `top` above.
-fn solid_cells(
+/// The cells of a layer's inner plane that each of the slices next to it has: of `bottom` below and `top` above.
+fn sparse_cells(
     alloc: Global,
     inner: &Plane,
     slices: &[Plane],
@@ -64,14 +64,14 @@ fn solid_cells(
     requires boxes { All (λ p. p.bounds ≡ inner.now.bounds) slices.now }
     requires layer { k < length slices.now }
     requires counts { top < 256 }
-    ensures { IfOk result (λ p. p ≡ solid_of slices.now inner.now k top bottom) }
+    ensures { IfOk result (λ p. p ≡ sparse_of slices.now inner.now k top bottom) }
 {
     if k < bottom || slices.len() <= k + top {
-        return whole(alloc, inner);
+        return Plane::empty(alloc, inner.bounds());
     }
-    let below = lacked(alloc, inner, &slices[k - bottom..k])?;
-    let above = lacked(alloc, inner, &slices[k + 1..k + 1 + top])?;
-    below.union(alloc, &above)
+    let cells = inner.copied(alloc)?;
+    let below = common(alloc, cells, &slices[k - bottom..k])?;
+    common(alloc, below, &slices[k + 1..k + 1 + top])
 }
 
 /// The cells of a layer's inner plane that the next slice lacks.
@@ -87,17 +87,18 @@ fn top_cells(alloc: Global, inner: &Plane, slices: &[Plane], k: usize) -> Result
     inner.minus(alloc, &slices[above])
 }
 
-/// The cells of a plane that one of the layers lacks.
-fn lacked(alloc: Global, plane: &Plane, layers: &[Plane]) -> Result<Plane, NoMemory>
-    requires { All (λ p. p.bounds ≡ plane.now.bounds) layers.now }
-    ensures { IfOk result (λ p. p ≡ plane_of plane.now.bounds (λ x y. filled plane.now x y && list_any (λ q. not (filled q x y)) layers.now)) }
+/// The cells of a plane that each of the layers has.
+fn common(alloc: Global, plane: Plane, layers: &[Plane]) -> Result<Plane, NoMemory>
+    requires { All (λ p. p.bounds ≡ plane.bounds) layers.now }
+    ensures { IfOk result (λ p. p ≡ plane_of plane.bounds (λ x y. filled plane x y && not (list_any (λ q. not (filled q x y)) layers.now))) }
 {
-    let mut lacked = Plane::empty(alloc, plane.bounds())?;
+    let mut kept = plane;
+    let _bounds = kept.bounds();
     for layer in layers {
-        let more = plane.minus(alloc, layer)?;
-        lacked = lacked.union(alloc, &more)?;
+        let lost = kept.minus(alloc, layer)?;
+        kept = kept.minus(alloc, &lost)?;
     }
-    Ok(lacked)
+    Ok(kept)
 }
 
 /// All cells of a plane.

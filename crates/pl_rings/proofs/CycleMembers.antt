@@ -1,5 +1,5 @@
 -- The numbers of the cycles.
-use Rattle.std.proofs.Common.{◌≡◌, ℕ, zero, suc, ◌<◌, Bool, true, false, cond, List, [], ◌==◌}
+use Rattle.std.proofs.Common.{◌≡◌, ℕ, zero, suc, Bool, true, false, cond, List, [], ◌==◌}
 use Rattle.std.specs.List.{range_with_len, filter, All}
 use Rattle.std.proofs.lemmas.List.Elements.{All-nil, All-cons, All-map, All-weaker, filter_passes}
 use Rattle.std.proofs.lemmas.Bool.{and_parts}
@@ -25,10 +25,3 @@ cycles_count counts next n perm =
     (All-weaker (λ k. is_least counts next n k ≡ true) (λ k. C (cycle_of next n k))
     (λ k h. walk_counts counts next n k n k perm (and_parts _ _ h).0)
     least (filter_passes (is_least counts next n) (range_with_len 0 n)))
-
--- and are below the bound
-pub cycles_below : (counts : ℕ → Bool) (next : ℕ → ℕ) (n : ℕ) → Permutes counts next n → All (All (λ j. j < n)) (cycles_of counts next n)
-cycles_below counts next n perm =
-    All-weaker (All (λ j. counts j ≡ true)) (All (λ j. j < n))
-    (λ ks h. All-weaker (λ j. counts j ≡ true) (λ j. j < n) (λ j c. perm.below j c) ks h)
-    (cycles_of counts next n) (cycles_count counts next n perm)

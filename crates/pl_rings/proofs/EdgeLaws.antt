@@ -14,10 +14,10 @@ use Rattle.pl_rings.proofs.Partition.{Returns, returns_to, once_in_cycles}
 use Rattle.pl_rings.proofs.SideLemmas.{next_is_side, next_apart}
 use Rattle.pl_rings.proofs.SideNumbers.{next_permutes, point_of, number_below, side_at-number_of}
 
-found_by_number : (p : Cells) (s : Side) → is_side p s ≡ true → side_at p.bounds (number_of p.bounds s) ≡ s
+pub found_by_number : (p : Cells) (s : Side) → is_side p s ≡ true → side_at p.bounds (number_of p.bounds s) ≡ s
 found_by_number p s h = side_at-number_of p.bounds s (point_of p s h)
 
-number_stands : (p : Cells) (s : Side) → is_side p s ≡ true → stands p (number_of p.bounds s) ≡ true
+pub number_stands : (p : Cells) (s : Side) → is_side p s ≡ true → stands p (number_of p.bounds s) ≡ true
 number_stands p s h = and_from _ _ (lt-ltb _ _ (number_below p.bounds s (point_of p s h))) (ap (is_side p) (found_by_number p s h) ∙ h)
 
 -- the number before one that counts

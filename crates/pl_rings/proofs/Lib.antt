@@ -10,3 +10,11 @@ pub mod Partition
 pub mod RingLemmas
 pub mod CycleMembers
 pub mod CornerLemmas
+pub mod LeastSides
+pub mod OpenStarts
+pub mod OpenPlaces
+pub mod PlaneStarts
+pub mod Runs
+pub mod RunEnds
+pub mod LoopTrace
+pub mod LoopSearch

@@ -4,10 +4,10 @@ use Rattle.std.specs.List.{range_with_len, list_all, filter, flat_map, sum_by, c
 use Rattle.std.proofs.lemmas.List.{length-replicate}
 use Rattle.std.proofs.lemmas.List.Sums.{sum_by-cons, sum_by-append}
 use Rattle.std.proofs.lemmas.Bool.{cases_lt, cases_eq, both_ways, cases_Bool, le-leb, lt-leb, eq-eqb, ne_eqb, and_from, and_parts}
-use Rattle.pl_rings.specs.Cycles.{Permutes, steps, cycle_of, cycles_of, is_least, IsPeriod, is_marked, IsClosed}
+use Rattle.pl_rings.specs.Cycles.{Permutes, steps, cycle_of, cycles_of, is_least, IsPeriod, is_marked}
 use Rattle.pl_rings.proofs.Iterates.{steps_count, steps-add}
-use Rattle.pl_rings.proofs.Tracing.{OnTheWay, way_none, way_more, way_all, apart_by_turn}
-use Rattle.pl_rings.proofs.Finding.{marks_none, no_mark, cycle_is, all_steps, not_all_steps, period_on}
+use Rattle.pl_rings.proofs.Tracing.{IsClosed, OnTheWay, way_none, way_more, way_all, apart_by_turn}
+use Rattle.pl_rings.proofs.Finding.{none_closed, no_mark, cycle_is, all_steps, not_all_steps, period_on}
 
 -- ---- each number that counts comes again
 
@@ -36,7 +36,7 @@ returns_to counts next n k perm c =
     let size : length old ≡ n = length-replicate n false in
     let P : ℕ → Type 0 = λ m. Permutes counts next m in
     let Q : ℕ → Type 0 = λ m. Returns next m k in
-    subst Q size (goes_on counts next k old (subst P (sym size) perm) c (no_mark n k) (marks_none counts next n).closed n k old [] c (way_none next k old) (omega (arith, size)))
+    subst Q size (goes_on counts next k old (subst P (sym size) perm) c (no_mark n k) (none_closed counts next n) n k old [] c (way_none next k old) (omega (arith, size)))
 
 -- ---- the least of a cycle
 
@@ -77,7 +77,7 @@ least_step f m (suc r) some small =
     ]
 
 -- the least is below each step, and the other way round
-least_below : (counts : ℕ → Bool) (next : ℕ → ℕ) (n i m : ℕ) → m ≤ n → IsPeriod next i m → is_least counts next n i ≡ true → (j : ℕ) → i ≤ steps next j i
+pub least_below : (counts : ℕ → Bool) (next : ℕ → ℕ) (n i m : ℕ) → m ≤ n → IsPeriod next i m → is_least counts next n i ≡ true → (j : ℕ) → i ≤ steps next j i
 least_below counts next n i m few p least j =
     let each : (t : ℕ) → t < m → i ≤ steps next t i = λ t less.
     elim (cases_lt (steps next t i) i) [
@@ -86,7 +86,7 @@ least_below counts next n i m few p least j =
     ] in
     always_above next i m i p each j j (omega arith)
 
-is_least_if : (counts : ℕ → Bool) (next : ℕ → ℕ) (n l m : ℕ) → counts l ≡ true → m ≤ n → IsPeriod next l m → ((j : ℕ) → l ≤ steps next j l) → is_least counts next n l ≡ true
+pub is_least_if : (counts : ℕ → Bool) (next : ℕ → ℕ) (n l m : ℕ) → counts l ≡ true → m ≤ n → IsPeriod next l m → ((j : ℕ) → l ≤ steps next j l) → is_least counts next n l ≡ true
 is_least_if counts next n l m c few p h =
     and_from _ _ c (ap (list_all (nat_le l)) (cycle_is next n l m few p) ∙ all_steps next l (nat_le l) 0 m (λ i less. le-leb l (steps next i l) (h i)))
 
@@ -174,7 +174,7 @@ pub record LeastOn (counts : ℕ → Bool) (next : ℕ → ℕ) (n k l : ℕ) : 
   pub below : (j : ℕ) → l ≤ steps next j k
   pub least : is_least counts next n l ≡ true
 
-way_back : (next : ℕ → ℕ) (k m t : ℕ) → IsPeriod next k m → t < m → (s : ℕ) × (s < m) × (steps next s (steps next t k) ≡ k)
+pub way_back : (next : ℕ → ℕ) (k m t : ℕ) → IsPeriod next k m → t < m → (s : ℕ) × (s < m) × (steps next s (steps next t k) ≡ k)
 way_back next k m t p less =
     elim (cases_eq t 0) [
       | inl e ↦ (0, p.some, ap (λ i. steps next i k) e)
@@ -183,7 +183,7 @@ way_back next k m t p less =
           (m - t, omega arith, sym (steps-add next t (m - t) k) ∙ ap (λ i. steps next i k) sum ∙ p.back)
     ]
 
-least_on : (counts : ℕ → Bool) (next : ℕ → ℕ) (n k : ℕ) → Permutes counts next n → counts k ≡ true → (l : ℕ) × LeastOn counts next n k l
+pub least_on : (counts : ℕ → Bool) (next : ℕ → ℕ) (n k : ℕ) → Permutes counts next n → counts k ≡ true → (l : ℕ) × LeastOn counts next n k l
 least_on counts next n k perm c =
     let r : Returns next n k = returns_to counts next n k perm c in
     let m : ℕ = r.0 in

@@ -17,14 +17,14 @@ back_and_there : (x : ℤ) → x -ℤ pos 1 +ℤ pos 1 ≡ x
 back_and_there x = omega (arith, ints)
 
 -- a side that leaves its start arrives at its end
-arrives_at_end : (p : Cells) (x y : ℤ) (h : Heading) → leaves (around p x y) h ≡ arrives (around p (end_x x h) (end_y y h)) h
+pub arrives_at_end : (p : Cells) (x y : ℤ) (h : Heading) → leaves (around p x y) h ≡ arrives (around p (end_x x h) (end_y y h)) h
 arrives_at_end p x y East = ap (λ z. filled p z y && not (filled p z (y -ℤ pos 1))) (sym (there_and_back x))
 arrives_at_end p x y North = ap (λ z. filled p (x -ℤ pos 1) z && not (filled p x z)) (sym (there_and_back y))
 arrives_at_end p x y West = refl
 arrives_at_end p x y South = refl
 
 -- what follows from a test that is `not a || b`
-from_or : (a b : Bool) → (not a || b) ≡ true → a ≡ true → b ≡ true
+pub from_or : (a b : Bool) → (not a || b) ≡ true → a ≡ true → b ≡ true
 from_or true b h e = h
 from_or false b h e = absurd (both_ways false refl e)
 

@@ -77,7 +77,7 @@ rank_below West = omega arith
 rank_below South = omega arith
 
 -- the number of a side by its column and row
-number_is : (b : Extent) (s : Side) (q : IsPoint b s.x s.y) → number_of b s ≡ (q.row * (b.cols + 1) + q.column) * 4 + rank_of s.heading
+pub number_is : (b : Extent) (s : Side) (q : IsPoint b s.x s.y) → number_of b s ≡ (q.row * (b.cols + 1) + q.column) * 4 + rank_of s.heading
 number_is b s q = ap (λ z. (unsigned_abs z * (b.cols + 1) + unsigned_abs (s.x -ℤ b.x0)) * 4 + rank_of s.heading) q.y_is ∙ ap (λ z. (q.row * (b.cols + 1) + unsigned_abs z) * 4 + rank_of s.heading) q.x_is
 
 pub number_below : (b : Extent) (s : Side) → IsPoint b s.x s.y → number_of b s < side_count b
@@ -106,7 +106,7 @@ side_at-number_of b s q =
     ∙ ap (λ z. side_of s.x z (heading_of r)) y
     ∙ ap (side_of s.x s.y) (heading_of-rank_of s.heading)
 
-rank_of-heading_of : (n : ℕ) → n < 4 → rank_of (heading_of n) ≡ n
+pub rank_of-heading_of : (n : ℕ) → n < 4 → rank_of (heading_of n) ≡ n
 rank_of-heading_of zero h = refl
 rank_of-heading_of (suc zero) h = refl
 rank_of-heading_of (suc (suc zero)) h = refl

@@ -5,8 +5,19 @@ use Rattle.std.proofs.lemmas.Bool.{cases_eq, cases_lt, both_ways}
 use Rattle.std.proofs.lemmas.List.{get_or_default}
 use Rattle.std.proofs.lemmas.List.Sums.{sum_by-set, count_by-le-length}
 use Rattle.std.proofs.lemmas.List.FromFn.{map-range_with_len_more}
-use Rattle.pl_rings.specs.Cycles.{Permutes, steps, IsPeriod, GoesRound, is_marked, IsClosed, MarksSteps}
+use Rattle.pl_rings.specs.Cycles.{Permutes, steps, GoesRound, is_marked}
 use Rattle.pl_rings.proofs.Iterates.{steps_count, steps_back, steps-add}
+
+-- what leads to a marked number is marked
+pub record IsClosed (counts : ℕ → Bool) (next : ℕ → ℕ) (marks : List Bool) : Type 0 where
+  pub back : (k : ℕ) → counts k ≡ true → is_marked marks (next k) ≡ true → is_marked marks k ≡ true
+
+-- the marks that were there stay, and the i-th step from k is marked for each i below n, and nothing else is
+pub record MarksSteps (next : ℕ → ℕ) (k n : ℕ) (old new : List Bool) : Type 0 where
+  pub size : length new ≡ length old
+  pub kept : (j : ℕ) → is_marked old j ≡ true → is_marked new j ≡ true
+  pub each : (i : ℕ) → i < n → is_marked new (steps next i k) ≡ true
+  pub only : (j : ℕ) → is_marked new j ≡ true → (is_marked old j ≡ true) ⊎ ((i : ℕ) × (i < n) × (j ≡ steps next i k))
 
 -- what holds after n steps: where it is, the way so far, and which marks it made
 pub record OnTheWay (next : ℕ → ℕ) (start : ℕ) (old new : List Bool) (way : List ℕ) (at : ℕ) : Type 0 where
@@ -30,17 +41,17 @@ way_none next start old = record {
 pub mark_read : (marks : List Bool) (at : ℕ) (r : Bool) → at < length marks → r ≡ get_or marks at r → is_marked marks at ≡ r
 mark_read marks at r p e = get_or_default marks at false r p ∙ sym e
 
-set_marks : (marks : List Bool) (k : ℕ) → k < length marks → is_marked (set marks k true) k ≡ true
+pub set_marks : (marks : List Bool) (k : ℕ) → k < length marks → is_marked (set marks k true) k ≡ true
 set_marks marks k p = get_or-set_same marks k true false p
 
-marked_set : (marks : List Bool) (k j : ℕ) → k < length marks → is_marked marks j ≡ true → is_marked (set marks k true) j ≡ true
+pub marked_set : (marks : List Bool) (k j : ℕ) → k < length marks → is_marked marks j ≡ true → is_marked (set marks k true) j ≡ true
 marked_set marks k j p h =
     elim (cases_eq j k) [
       | inl e ↦ ap (is_marked (set marks k true)) e ∙ set_marks marks k p
       | inr ne ↦ get_or-set_other marks k j true false ne ∙ h
     ]
 
-marked_after : (marks : List Bool) (k j : ℕ) → is_marked (set marks k true) j ≡ true → (is_marked marks j ≡ true) ⊎ (j ≡ k)
+pub marked_after : (marks : List Bool) (k j : ℕ) → is_marked (set marks k true) j ≡ true → (is_marked marks j ≡ true) ⊎ (j ≡ k)
 marked_after marks k j h =
     elim (cases_eq j k) [ inl e ↦ inr e | inr ne ↦ inl (sym (get_or-set_other marks k j true false ne) ∙ h) ]
 
@@ -117,22 +128,3 @@ way_all counts next start at old new way perm c fresh closed w met =
             | inr later ↦ absurd (w.away (length way - i.0) (omega arith) (omega arith) turn)
           ]
     ]
-
--- and then the marks are closed again
-closing : (counts : ℕ → Bool) (next : ℕ → ℕ) (start m n : ℕ) (old new : List Bool) → Permutes counts next m → counts start ≡ true → MarksSteps next start n old new → 0 < n → steps next n start ≡ start → (j i : ℕ) → counts j ≡ true → i < n → next j ≡ steps next i start → is_marked new j ≡ true
-closing counts next start m zero old new perm c ms some back j i h less e = absurd (omega arith)
-closing counts next start m (suc n) old new perm c ms some back j zero h less e =
-    let same : j ≡ steps next n start = perm.apart j _ h (steps_count counts next m perm start c n) (e ∙ sym back) in
-    ap (is_marked new) same ∙ ms.each n (omega arith)
-closing counts next start m (suc n) old new perm c ms some back j (suc i) h less e =
-    let same : j ≡ steps next i start = perm.apart j _ h (steps_count counts next m perm start c i) e in
-    ap (is_marked new) same ∙ ms.each i (omega arith)
-
-pub closed_again : (counts : ℕ → Bool) (next : ℕ → ℕ) (start : ℕ) (old new : List Bool) (way : List ℕ) → Permutes counts next (length old) → counts start ≡ true → IsClosed counts next old → MarksSteps next start (length way) old new → IsPeriod next start (length way) → IsClosed counts next new
-closed_again counts next start old new way perm c closed m q = record {
-  back = λ j h marked.
-      elim (m.only (next j) marked) [
-        | inl was ↦ m.kept j (closed.back j h was)
-        | inr i ↦ closing counts next start (length old) (length way) old new perm c m q.some q.back j i.0 h i.1 i.2
-      ];
-}

@@ -1,5 +1,5 @@
 -- The cycles of a function on numbers.
-use Rattle.std.specs.Prelude.{◌≡◌, ℕ, zero, suc, ◌<◌, ◌≤◌, ◌≢◌, ◌⊎◌, slice_index_or, false, length, Bool, true, List, [], ◌∷◌, map, ◌==◌, nat_le, ◌&&◌, if◌then◌else◌, filter}
+use Rattle.std.specs.Prelude.{◌≡◌, ℕ, zero, suc, ◌<◌, ◌≤◌, ◌≢◌, slice_index_or, false, length, Bool, true, List, [], ◌∷◌, map, ◌==◌, nat_le, ◌&&◌, if◌then◌else◌, filter}
 use Rattle.std.specs.List.{range_with_len, list_all}
 
 -- n steps from k
@@ -46,14 +46,3 @@ pub record GoesRound (next : ℕ → ℕ) (k most : ℕ) (round : List ℕ) : Ty
 
 abbrev pub is_marked : List Bool → ℕ → Bool
 is_marked marks k = slice_index_or marks k false
-
--- what leads to a marked number is marked
-pub record IsClosed (counts : ℕ → Bool) (next : ℕ → ℕ) (marks : List Bool) : Type 0 where
-  pub back : (k : ℕ) → counts k ≡ true → is_marked marks (next k) ≡ true → is_marked marks k ≡ true
-
--- the marks that were there stay, and the i-th step from k is marked for each i below n, and nothing else is
-pub record MarksSteps (next : ℕ → ℕ) (k n : ℕ) (old new : List Bool) : Type 0 where
-  pub size : length new ≡ length old
-  pub kept : (j : ℕ) → is_marked old j ≡ true → is_marked new j ≡ true
-  pub each : (i : ℕ) → i < n → is_marked new (steps next i k) ≡ true
-  pub only : (j : ℕ) → is_marked new j ≡ true → (is_marked old j ≡ true) ⊎ ((i : ℕ) × (i < n) × (j ≡ steps next i k))

@@ -1,7 +1,5 @@
 -- The boundary sides of a plane, and which follows which.
-use Rattle.std.specs.Prelude.{◌≤ℤ◌, neg_ℤ, ◌≡◌, ◌<◌, ℤ, ℕ, pos, ◌+ℤ◌, ◌-ℤ◌, ◌+◌, ◌*◌, ◌/◌, ◌%◌, Bool, true, ◌&&◌, not, nat_lt, unsigned_abs, zero, suc, List, [], ◌∷◌, map, if◌then◌else◌, ◌==◌}
-use Rattle.std.specs.declared.option.Option.{Option}
-use Rattle.std.specs.declared.option.Option.TheVariants.{Some, None}
+use Rattle.std.specs.Prelude.{◌≤ℤ◌, neg_ℤ, ◌≡◌, ◌<◌, ℤ, ℕ, pos, ◌+ℤ◌, ◌-ℤ◌, ◌+◌, ◌*◌, ◌/◌, ◌%◌, Bool, ◌&&◌, nat_lt, unsigned_abs, zero, suc, List, [], ◌∷◌, map, if◌then◌else◌, ◌==◌}
 use Rattle.pl_grid.specs.Extent.{Extent}
 use Rattle.pl_grid.specs.Planes.{Cells, filled}
 use Rattle.pl_grid.specs.declared.stroke.Corner.{Corner}
@@ -107,11 +105,6 @@ corners_after h (s ∷ ss) = if rank_of h == rank_of s.heading then corners_afte
 abbrev pub corners_of : List Side → List Corner
 corners_of [] = []
 corners_of (s ∷ ss) = record { x = s.x; y = s.y } ∷ corners_after s.heading ss
-
--- a side with this heading does not go on straight from the one before, where there is one
-abbrev pub turns_from : Option Heading → Heading → Bool
-turns_from None h = true
-turns_from (Some b) h = not (rank_of b == rank_of h)
 
 -- the loops of a plane: the cycles of its boundary sides, each from its least, in the order of these, as their corners
 abbrev pub loops_of : Cells → List (List Corner)

@@ -1,7 +1,7 @@
 //! The sides of a plane's cells.
-ghost use Rattle.std.specs.Prelude.{◌≡◌, ◌<◌};
-ghost use Rattle.pl_rings.specs.Headings.{to_the_right, to_the_left};
-ghost use Rattle.pl_rings.specs.Sides.{rank_of, heading_of};
+ghost use Rattle.std.specs.Prelude.{◌≡◌, ◌<◌, ◌≤ℤ◌, neg_ℤ, pos};
+ghost use Rattle.pl_rings.specs.Headings.{rises, to_the_right, to_the_left};
+ghost use Rattle.pl_rings.specs.Sides.{rank_of, end_x, end_y};
 
 /// Where a side goes.
 #[derive(Clone, Copy, Debug, PartialEq, Eq)]
@@ -45,6 +45,17 @@ impl Heading {
         }
     }
 
+    /// Whether the end of a side with this heading is a later point than its start: a point of a higher row, or
+    /// one to the right in the same row.
+    pub(crate) fn rises(self) -> bool
+        ensures { result ≡ rises self }
+    {
+        match self {
+            Heading::East | Heading::North => true,
+            Heading::West | Heading::South => false,
+        }
+    }
+
     /// The place of this heading in the order of east, north, west, south.
     pub(crate) fn rank(self) -> usize
         ensures value { result ≡ rank_of self }
@@ -57,17 +68,34 @@ impl Heading {
             Heading::South => 3,
         }
     }
+}
 
-    /// The heading at a place of this order.
-    pub(crate) fn ranked(rank: usize) -> Heading
-        requires { rank < 4 }
-        ensures { result ≡ heading_of rank }
-    {
-        match rank {
-            0 => Heading::East,
-            1 => Heading::North,
-            2 => Heading::West,
-            _ => Heading::South,
-        }
+/// The column of the point where a side with this heading ends that starts at column `x`.
+pub(crate) fn end_x(x: i32, heading: Heading) -> i32
+    requires low { neg_ℤ (pos 90000) ≤ℤ x }
+    requires high { x ≤ℤ pos 90000 }
+    ensures value { result ≡ end_x x heading }
+    ensures low { neg_ℤ (pos 100000) ≤ℤ result }
+    ensures high { result ≤ℤ pos 100000 }
+{
+    match heading {
+        Heading::East => x + 1,
+        Heading::West => x - 1,
+        _ => x,
+    }
+}
+
+/// The row of the point where a side with this heading ends that starts at row `y`.
+pub(crate) fn end_y(y: i32, heading: Heading) -> i32
+    requires low { neg_ℤ (pos 90000) ≤ℤ y }
+    requires high { y ≤ℤ pos 90000 }
+    ensures value { result ≡ end_y y heading }
+    ensures low { neg_ℤ (pos 100000) ≤ℤ result }
+    ensures high { result ≤ℤ pos 100000 }
+{
+    match heading {
+        Heading::North => y + 1,
+        Heading::South => y - 1,
+        _ => y,
     }
 }

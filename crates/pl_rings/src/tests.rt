@@ -67,3 +67,25 @@ fn two_rings_of_nine_cells_have_two_loops(rt: HostRuntime) -> Result<(), Fail> {
     assert!(rt; loops(alloc, &inner)?.is_empty(), "none inside");
     Ok(())
 }
+
+#[test]
+fn a_hole_has_a_loop_of_its_own(rt: HostRuntime) -> Result<(), Fail> {
+    let alloc = rt.alloc();
+    let bounds = Box2 {
+        x0: -2,
+        y0: 5,
+        cols: 3,
+        rows: 3,
+    };
+    let mut dot = Plane::empty(alloc, bounds)?;
+    dot.set(-1, 6, true);
+    let mut plane = dot.dilate(alloc)?.dilate(alloc)?;
+    plane.set(-1, 6, false);
+    let found = loops(alloc, &plane)?;
+    assert_eq!(rt; found.len(), 2, "two loops");
+    let outside = [at(-2, 5), at(1, 5), at(1, 8), at(-2, 8)];
+    assert_eq!(rt; found[0].corners(), outside.as_slice(), "round all");
+    let hole = [at(-1, 6), at(-1, 7), at(0, 7), at(0, 6)];
+    assert_eq!(rt; found[1].corners(), hole.as_slice(), "round the hole");
+    Ok(())
+}
