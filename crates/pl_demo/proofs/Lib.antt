@@ -2,3 +2,4 @@ pub mod Growing
 pub mod Sessions
 pub mod Relays
 pub mod Short
+pub mod Plates

@@ -1,5 +1,5 @@
 -- The commands of a demo.
-use Rattle.std.specs.Prelude.{ℕ, ◌+◌, ◌-◌, ◌*◌, ◌==◌, pos, if◌then◌else◌, List, [], ◌∷◌, ◌++◌, map, slice_index_or, codes}
+use Rattle.std.specs.Prelude.{ℕ, ◌-◌, ◌*◌, ◌==◌, pos, if◌then◌else◌, List, [], ◌∷◌, ◌++◌, map, codes}
 use Rattle.std.specs.List.{range_with_len}
 use Rattle.std.specs.Fmt.{decimal}
 use Rattle.pl_units.specs.declared.Nm.{Nm}
@@ -23,20 +23,20 @@ block_of n i = record { name = codes "b" ++ decimal i; bytes = box_text (size_of
 abbrev pub wait_commands : ℕ → List (Command Edit)
 wait_commands i = if i == 1 then [] else command.After (i - 1) (calls_of (i - 1)) ∷ []
 
--- then it loads its box, moves it, sets how dense its inside is, applies and exports
-abbrev pub edits_of : ℕ → ℕ → List (Command Edit)
+-- what it edits: it loads its box, moves it, and sets how dense its inside is
+abbrev pub edits_of : ℕ → ℕ → List Edit
 edits_of n i =
-    command.Edit (Load (codes "o" ++ decimal i) (block_of n i))
-    ∷ command.Edit (Move (i - 1) 0 (mm_of (right_of i)) (mm_of (back_of n i)))
-    ∷ command.Edit (Set (codes "fill_density") (percent_of (density_of n i))) ∷ []
+    Load (codes "o" ++ decimal i) (block_of n i)
+    ∷ Move (i - 1) 0 (mm_of (right_of i)) (mm_of (back_of n i))
+    ∷ Set (codes "fill_density") (percent_of (density_of n i)) ∷ []
 
+abbrev pub edit_commands : ℕ → ℕ → List (Command Edit)
+edit_commands n i = map command.Edit (edits_of n i)
+
+-- then it edits, applies and exports
 abbrev pub session_commands : ℕ → ℕ → List (Command Edit)
-session_commands n i = wait_commands i ++ (edits_of n i ++ command.Apply ∷ command.Export ∷ [])
+session_commands n i = wait_commands i ++ (edit_commands n i ++ command.Apply ∷ command.Export ∷ [])
 
 -- the commands of each session, in order
 abbrev pub demo_commands : ℕ → List (List (Command Edit))
 demo_commands n = map (session_commands n) (range_with_len 1 (sessions_of n))
-
--- those of session i, none where there is no such session
-abbrev pub of_session : List (List (Command Edit)) → ℕ → List (Command Edit)
-of_session sessions i = slice_index_or sessions (i - 1) []

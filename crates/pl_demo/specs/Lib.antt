@@ -3,3 +3,4 @@ pub mod Numbers
 pub mod Box
 pub mod Script
 pub mod Commands
+pub mod Summary

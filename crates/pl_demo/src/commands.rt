@@ -1,14 +1,15 @@
 //! The commands of a demo, as values.
-ghost use Rattle.std.specs.Prelude.{◌≡◌, ◌≤◌, ◌-◌, ℕ, [], ◌∷◌, ◌++◌, map, IfOk, OnOk, codes};
+ghost use Rattle.std.specs.Prelude.{◌≡◌, ◌≤◌, ◌-◌, ℕ, [], ◌∷◌, ◌++◌, map, All, length, IfOk, OnOk, codes};
 ghost use Rattle.std.specs.Arc.{arc_value};
 ghost use Rattle.std.specs.Fmt.{decimal};
 ghost use Rattle.pl_edit.specs.declared.edit.Edit.TheVariants as edit;
 ghost use Rattle.pl_relay.specs.Relay.{IsRelay};
 ghost use Rattle.pl_relay.specs.Exports.{EndsInExport};
+ghost use Rattle.pl_runs.specs.Script.{IsCallable, commands_at};
 ghost use Rattle.pl_demo.specs.Numbers as numbers;
 ghost use Rattle.pl_demo.specs.Box.{box_text};
 ghost use Rattle.pl_demo.specs.Script.{percent_of};
-ghost use Rattle.pl_demo.specs.Commands.{mm_of, block_of, wait_commands, session_commands, demo_commands, of_session};
+ghost use Rattle.pl_demo.specs.Commands.{mm_of, block_of, wait_commands, session_commands, demo_commands};
 
 use crate::numbers::{back_of, calls_of, density_of, percent_of, right_of, sessions_of, size_of};
 use crate::solid::{Size, put_box};
@@ -140,21 +141,32 @@ fn session_in(alloc: Global, n: u64, i: u64) -> Result<Vec<Arc<Command<Edit>>>, 
     Ok(made)
 }
 
-/// The commands of each session of demo n, from 0 to 999: those that its script has.
-pub fn demo_sessions(alloc: Global, n: u16) -> Result<Vec<Vec<Arc<Command<Edit>>>>, NoMemory>
+// The commands of all sessions.
+fn sessions_in(alloc: Global, n: u64) -> Result<Vec<Vec<Arc<Command<Edit>>>>, NoMemory>
     requires { n ≤ 999 }
     ensures { IfOk result (λ sessions. map (λ own. map arc_value own.items) sessions.items ≡ demo_commands n) }
 {
-    let demo = u64::from(n);
     let mut sessions = Vec::new(alloc);
-    for before in 0..sessions_of(demo) {
-        sessions.push(session_in(alloc, demo, before + 1)?)?;
+    for before in 0..sessions_of(n) {
+        sessions.push(session_in(alloc, n, before + 1)?)?;
     }
+    Ok(sessions)
+}
+
+/// The commands of each session of demo n, from 0 to 999: those that its script has. There are at most four sessions, and each of
+/// their commands may be called.
+pub fn demo_sessions(alloc: Global, n: u16) -> Result<Vec<Vec<Arc<Command<Edit>>>>, NoMemory>
+    requires { n ≤ 999 }
+    ensures value { IfOk result (λ sessions. map (λ own. map arc_value own.items) sessions.items ≡ demo_commands n) }
+    ensures few { IfOk result (λ sessions. length sessions.items ≤ 4) }
+    ensures callable { IfOk result (λ sessions. All IsCallable (map (λ own. map arc_value own.items) sessions.items)) }
+{
+    let sessions = sessions_in(alloc, u64::from(n))?;
     Ok(sessions)
 }
 
 /// A law: the sessions of a demo run one after another, and each has one export, as its last command.
 pub fn demos_are_relays()
-    ensures relay { (n : ℕ) → IsRelay (of_session (demo_commands n)) (numbers.sessions_of n) }
-    ensures exports { (n i : ℕ) → 1 ≤ i → i ≤ numbers.sessions_of n → EndsInExport (of_session (demo_commands n) i) }
+    ensures relay { (n : ℕ) → IsRelay (commands_at (demo_commands n)) (numbers.sessions_of n) }
+    ensures exports { (n i : ℕ) → 1 ≤ i → i ≤ numbers.sessions_of n → EndsInExport (commands_at (demo_commands n) i) }
 {}

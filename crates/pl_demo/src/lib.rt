@@ -3,8 +3,11 @@
 
 mod commands;
 mod numbers;
+mod run;
 mod script;
 mod solid;
+mod summary;
 
 pub use commands::{demo_sessions, demos_are_relays};
+pub use run::run_demo;
 pub use script::demo_script;

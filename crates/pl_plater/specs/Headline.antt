@@ -24,6 +24,7 @@ use Rattle.pl_fff.specs.declared.fff.FffBench.{FffBench}
 use Rattle.pl_fff.specs.declared.job.FffJob.{FffJob}
 use Rattle.pl_transcript.specs.Entries.{transcript}
 use Rattle.pl_scripted.specs.Commands.{session_commands, IsOfOne}
+use Rattle.pl_demo.specs.Summary.{summary}
 
 -- ---- input
 
@@ -112,6 +113,10 @@ pub record WritesFront (task : Task) (bytes : List ℕ) (before after : Option (
   pub meaning : Meaning task
   pub reading : meaning_of task bytes ≡ Ok meaning
   pub wrote : WroteFront task meaning before after
+
+-- the summary of demo n: of each session, how long the G-code is of the plate after its edits and those of the sessions before it
+abbrev pub demo_summary : ℕ → List ℕ
+demo_summary n = summary fff_meaning n
 
 abbrev pub EndsWell : Status → Type 0
 EndsWell status = (status ≡ Done) ⊎ (status ≡ NoMemory)

@@ -3,6 +3,7 @@
 
 #[cfg(test)]
 mod bodies;
+mod demo;
 #[cfg(test)]
 mod edit_tests;
 #[cfg(test)]

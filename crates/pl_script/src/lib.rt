@@ -18,6 +18,7 @@ mod words;
 pub use fault::{LineStop, ScriptFault};
 pub use laws::{command_lines_have_one_reading, script_texts_have_one_reading};
 pub use lines::LinesLeft;
+pub use numbers::whole_of;
 pub use read::{block_after, data_name, is_data, is_head, read_script};
 pub use script::{Blocks, Line, Lines, Script, SharedCommand};
 pub use stuck::stuck_line;

@@ -48,8 +48,8 @@ fn up_to(most: u32, digits: &[u8]) -> Option<u32>
     Some(number)
 }
 
-// The whole number of a word, where it is at most so great.
-pub(crate) fn whole_of(most: u32, word: &[u8]) -> Option<u32>
+/// The whole number of a word, in decimal without leading zeros, where it is at most so great. `most` is at most 10,000.
+pub fn whole_of(most: u32, word: &[u8]) -> Option<u32>
     requires { most ≤ 10000 }
     ensures number { result ≡ whole_of most word.now }
     ensures most { IfSome result (λ number. number ≤ most) }

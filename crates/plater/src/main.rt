@@ -30,7 +30,7 @@ fn unread(error: &io::Error) -> Status {
 fn tell(rt: &impl Eprint, status: &Status) -> io::Result<()> {
     match status {
         Status::Done => Ok(()),
-        Status::Usage => eprintln!(rt; "usage: plater run | slice"),
+        Status::Usage => eprintln!(rt; "usage: plater run | slice | demo N"),
         Status::Refused { line, fault } => eprintln!(rt; "plater: line {line}: {fault}"),
         Status::ReadFault => eprintln!(rt; "plater: read failed"),
         Status::WriteFault => eprintln!(rt; "plater: write failed"),

@@ -1,4 +1,3 @@
-use Rattle.std.proofs.Common.{arith}
 use Rattle.pl_demo.specs.Box.{facet_text, facets}
 use Rattle.pl_demo.proofs.Growing.{parts_more}
 use Rattle.pl_demo.proofs.solid.put_facets.Goals as goal
