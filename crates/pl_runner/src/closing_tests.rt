@@ -20,17 +20,9 @@ use std::test::Fail;
 use std::thread::Threads;
 
 // A table of epochs with a reader, and a lock round a blank plant that writes its words.
-pub(crate) fn opened(
+pub(crate) fn opened<T: Technology>(
     alloc: Global,
-) -> Result<
-    (
-        EpochTable,
-        ReaderSeat,
-        TurnLock<Plant<Toy>>,
-        Pass<Plant<Toy>>,
-    ),
-    NoMemory,
->
+) -> Result<(EpochTable, ReaderSeat, TurnLock<Plant<T>>, Pass<Plant<T>>), NoMemory>
     ensures reader { IfOk result (λ r. reads_at r.1 ≡ table_of r.0) }
     ensures home { IfOk result (λ r. epochs_of r.2 ≡ table_of r.0) }
     ensures lock { IfOk result (λ r. IsOf r.2 r.3) }
@@ -41,7 +33,7 @@ pub(crate) fn opened(
     ensures splits { IfOk result (λ r. splits r.3 ≡ 0) }
 {
     let (epochs, writer, reader) = EpochTable::new(alloc)?;
-    match TurnLock::new(alloc, Plant::<Toy>::new(alloc, writer)?) {
+    match TurnLock::new(alloc, Plant::<T>::new(alloc, writer)?) {
         Ok((lock, pass)) => Ok((epochs, reader, lock, pass)),
         Err(_) => Err(NoMemory),
     }
@@ -229,7 +221,7 @@ fn a_probe_stops_a_job_once_its_slot_has_fallen(rt: HostRuntime) -> Result<(), F
 #[test]
 fn a_worker_publishes_what_its_job_has_made(rt: HostRuntime) -> Result<(), Fail> {
     let alloc = rt.alloc();
-    let (epochs, reader, lock, mut first) = opened(alloc)?;
+    let (epochs, reader, lock, mut first) = opened::<Toy>(alloc)?;
     let worker = of_worker(&lock, &mut first);
     let Some((ticket, job, worker)) = begin(&rt, alloc, &lock, worker) else {
         return Err("nothing was started".into());
@@ -244,7 +236,7 @@ fn a_worker_publishes_what_its_job_has_made(rt: HostRuntime) -> Result<(), Fail>
 #[test]
 fn a_worker_whose_slot_was_cancelled_is_late(rt: HostRuntime) -> Result<(), Fail> {
     let alloc = rt.alloc();
-    let (epochs, reader, lock, mut first) = opened(alloc)?;
+    let (epochs, reader, lock, mut first) = opened::<Toy>(alloc)?;
     let worker = of_worker(&lock, &mut first);
     let Some((ticket, job, worker)) = begin(&rt, alloc, &lock, worker) else {
         return Err("nothing was started".into());
@@ -261,7 +253,7 @@ fn a_worker_whose_slot_was_cancelled_is_late(rt: HostRuntime) -> Result<(), Fail
 #[test]
 fn nothing_is_published_once_the_plant_is_closed_down(rt: HostRuntime) -> Result<(), Fail> {
     let alloc = rt.alloc();
-    let (epochs, reader, lock, mut first) = opened(alloc)?;
+    let (epochs, reader, lock, mut first) = opened::<Toy>(alloc)?;
     let worker = of_worker(&lock, &mut first);
     let Some((ticket, job, worker)) = begin(&rt, alloc, &lock, worker) else {
         return Err("nothing was started".into());

@@ -7,6 +7,8 @@ mod closing;
 mod closing_tests;
 mod closing_turns;
 mod finishing;
+#[cfg(test)]
+mod gate_tests;
 mod idle;
 mod job;
 mod look;
@@ -17,6 +19,10 @@ mod run;
 mod runner;
 #[cfg(test)]
 mod runner_tests;
+#[cfg(test)]
+mod scarce;
+#[cfg(test)]
+mod scarce_tests;
 mod standing;
 mod step;
 mod turns;

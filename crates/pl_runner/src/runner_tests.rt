@@ -22,7 +22,7 @@ fn count<T: Technology>(plant: &Plant<T>) -> (usize, usize) {
 }
 
 // The same of the plant under the lock.
-fn counted<T: Technology, R: Wait>(
+pub(crate) fn counted<T: Technology, R: Wait>(
     rt: &R,
     lock: &TurnLock<Plant<T>>,
     pass: Pass<Plant<T>>,
@@ -38,7 +38,7 @@ fn counted<T: Technology, R: Wait>(
 #[test]
 fn a_session_makes_its_results_and_a_worker_then_ends(rt: HostRuntime) -> Result<(), Fail> {
     let alloc = rt.alloc();
-    let (epochs, mut reader, lock, mut first) = opened(alloc)?;
+    let (epochs, mut reader, lock, mut first) = opened::<Toy>(alloc)?;
     let pass = of_worker(&lock, &mut first);
     let other = epochs.reader(&mut reader);
     let commands = vec![in alloc;
@@ -60,7 +60,7 @@ fn a_session_makes_its_results_and_a_worker_then_ends(rt: HostRuntime) -> Result
 #[test]
 fn a_job_whose_slot_was_cancelled_is_stopped(rt: HostRuntime) -> Result<(), Fail> {
     let alloc = rt.alloc();
-    let (epochs, mut reader, lock, mut first) = opened(alloc)?;
+    let (epochs, mut reader, lock, mut first) = opened::<Toy>(alloc)?;
     let pass = of_worker(&lock, &mut first);
     let other = epochs.reader(&mut reader);
     let commands = vec![in alloc; Arc::new(alloc, Command::Cancel)?]?;
