@@ -2,6 +2,10 @@
 #![tactic(auto)]
 
 #[cfg(test)]
+mod lock;
+#[cfg(test)]
 mod plants;
+#[cfg(test)]
+mod stopping;
 #[cfg(test)]
 mod trial;

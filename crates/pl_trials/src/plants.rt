@@ -44,10 +44,14 @@ enum Told {
     Other,
 }
 
-fn load(alloc: Global) -> Result<Edit, NoMemory> {
+// Loads an object of these facets.
+pub(crate) fn load(alloc: Global, facets: &[u8]) -> Result<Edit, NoMemory> {
+    if facets.len() > 1 << 28 {
+        return Err(NoMemory);
+    }
     let block = Block::of(
         Text::copy_of(alloc, b"facet")?,
-        Text::copy_of(alloc, FACET)?,
+        Text::copy_of(alloc, facets)?,
     );
     Ok(Edit::Load {
         name: Text::copy_of(alloc, b"a")?,
@@ -55,7 +59,7 @@ fn load(alloc: Global) -> Result<Edit, NoMemory> {
     })
 }
 
-fn set(alloc: Global, key: &[u8], text: &[u8]) -> Result<Edit, NoMemory> {
+pub(crate) fn set(alloc: Global, key: &[u8], text: &[u8]) -> Result<Edit, NoMemory> {
     if text.len() > 1 << 28 {
         return Err(NoMemory);
     }
@@ -67,7 +71,7 @@ fn set(alloc: Global, key: &[u8], text: &[u8]) -> Result<Edit, NoMemory> {
 
 fn command_of(alloc: Global, ask: Ask) -> Result<Command<Edit>, NoMemory> {
     match ask {
-        Ask::Load => Ok(Command::Edit(load(alloc)?)),
+        Ask::Load => Ok(Command::Edit(load(alloc, FACET)?)),
         Ask::Set(key, text) => Ok(Command::Edit(set(alloc, key, text)?)),
         Ask::Apply => Ok(Command::Apply),
         Ask::Export => Ok(Command::Export),
@@ -169,7 +173,7 @@ struct Row {
     late: Option<(u64, u64)>,
 }
 
-const ROWS: [Row; 4] = [
+const ROWS: [Row; 5] = [
     Row {
         name: "a layer height that changes and changes back",
         done: 0,
@@ -197,6 +201,17 @@ const ROWS: [Row; 4] = [
         asks: &[
             (Ask::Set(b"skirts", b"3"), Told::Done),
             (Ask::Apply, Told::Changed),
+        ],
+        late: None,
+    },
+    Row {
+        name: "perimeters over slices that are done, and the skirts change",
+        done: 1,
+        asks: &[
+            (Ask::Status, Told::Modes(10, 1, 1)),
+            (Ask::Set(b"skirts", b"3"), Told::Done),
+            (Ask::Apply, Told::Changed),
+            (Ask::Status, Told::Modes(10, 1, 1)),
         ],
         late: None,
     },

@@ -7,7 +7,7 @@ ghost use Rattle.pl_machine.specs.Calls.{NamesSession};
 ghost use Rattle.pl_trials.specs.Standing.{StandOn};
 
 use pl_epochs::EpochTable;
-use pl_machine::{Actor, Answer, Closing, Command, What};
+use pl_machine::{Actor, Answer, Closing, Command, Entry, What};
 use pl_plant::{Begun, Plant};
 use pl_ports::ScriptedProbe;
 use pl_tech::{Ran, Slot, Technology};
@@ -65,6 +65,17 @@ fn slot_at(number: u8) -> Slot {
         return Slot::of(number);
     }
     Slot::of(99)
+}
+
+// Whether the last entry is worker 1's late one of a slot.
+pub(crate) fn ends_late<T: Technology>(journal: &[Entry<T>], slot: Slot, late: (u64, u64)) -> bool {
+    match journal.last() {
+        Some(entry) => {
+            matches!(entry.actor, Actor::Worker(1))
+                && matches!(entry.what, What::Late(at, then, now) if at == slot && (then, now) == late)
+        }
+        None => false,
+    }
 }
 
 impl<T: Technology> Trial<T> {
@@ -165,17 +176,6 @@ impl<T: Technology> Trial<T> {
         }
     }
 
-    // Whether the last entry is worker 1's late one of a slot.
-    fn ends_late(&self, slot: Slot, late: (u64, u64)) -> bool {
-        match self.plant.journal().last() {
-            Some(entry) => {
-                matches!(entry.actor, Actor::Worker(1))
-                    && matches!(entry.what, What::Late(at, then, now) if at == slot && (then, now) == late)
-            }
-            None => false,
-        }
-    }
-
     // Session 1 makes calls, and worker 1 makes the first slots.
     fn prepared<R: Threads + Sync>(
         rt: &R,
@@ -212,7 +212,7 @@ pub(crate) fn made<T: Technology, R: Threads + Sync>(
     let Some(late) = late else {
         return Ok((outcome, true));
     };
-    let told = trial.ends_late(slot, late);
+    let told = ends_late(trial.plant.journal(), slot, late);
     let again = trial.publish(rt, alloc, slot)?;
     Ok((outcome, told && again == Some(late.1)))
 }
