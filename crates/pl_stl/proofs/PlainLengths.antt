@@ -1,5 +1,5 @@
 -- The lengths of plain numerals.
-use Rattle.std.proofs.Common.{◌≡◌, ◌==◌, ◌+◌, ◌*◌, ◌^◌, ◌<◌, ◌≤◌, ℕ, Bool, false, List, ◌++◌, length, refl, ap, sym, ◌∙◌, arith, Option, Some, None, Ok, length-append}
+use Rattle.std.proofs.Common.{◌≡◌, ◌==◌, ◌+◌, ◌*◌, ◌^◌, ◌≤◌, ℕ, Bool, false, List, length, refl, ap, sym, ◌∙◌, arith, Option, Some, None, Ok, length-append}
 use Rattle.std.specs.Prelude.{position}
 use Rattle.pl_units.specs.declared.Nm.{Nm}
 use Rattle.pl_units.specs.declared.numeral.Numeral.{Numeral}

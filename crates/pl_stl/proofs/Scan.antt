@@ -1,11 +1,11 @@
 -- A byte more of a text, and what is left to read.
-use Rattle.std.proofs.Common.{◌≡◌, ◌==◌, ◌+◌, ◌-◌, ◌<◌, ◌≤◌, ℕ, Bool, true, false, List, [], ◌∷◌, ◌++◌, length, take, drop, refl, ap, sym, ◌∙◌, arith, Ok, Err, sum_by, Result, ◌⊎◌, inl, inr, get_or}
+use Rattle.std.proofs.Common.{◌≡◌, ◌==◌, ◌+◌, ◌-◌, ◌<◌, ◌≤◌, ℕ, Bool, true, false, List, [], ◌∷◌, ◌++◌, length, take, drop, refl, ap, arith, Ok, Err, Result, ◌⊎◌, inl, inr, get_or}
 use Rattle.std.specs.Prelude.{nat_lt}
 use Rattle.std.specs.List.{between}
 use Rattle.pl_stl.specs.declared.fault.StlFault.{StlFault}
 use Rattle.std.proofs.lemmas.Bool.{eqb-true, ltb-true, ltb-false}
-use Rattle.pl_stl.specs.Tokens.{tokens_from, is_white_space, line_end, last_line}
-use Rattle.pl_stl.specs.Reading.{State, after_word, run, finished, mesh_of}
+use Rattle.pl_stl.specs.Tokens.{tokens_from, is_white_space, line_end}
+use Rattle.pl_stl.specs.Reading.{State, after_word, run, finished}
 use Rattle.pl_stl.specs.Reading.{Refuses, Breach, breach}
 use Rattle.pl_units.specs.declared.Refusal.{Refusal}
 use Rattle.pl_units.specs.declared.Refusal.TheVariants as refusals

@@ -1,4 +1,4 @@
-use Rattle.std.proofs.Common.{◌+◌, ◌*◌, ◌^◌, ◌<◌, ◌≤◌, arith, length, sym, refl, ◌∙◌}
+use Rattle.std.proofs.Common.{◌+◌, ◌*◌, ◌^◌, ◌≤◌, arith, length, refl}
 use Rattle.std.proofs.Math.Nat.{mul-le-mul}
 use Rattle.pl_units.proofs.Powers.{ten_most}
 use Rattle.pl_stl.proofs.PlainLengths.{digits_length}

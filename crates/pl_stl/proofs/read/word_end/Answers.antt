@@ -1,4 +1,4 @@
-use Rattle.std.proofs.Common.{◌≡◌, ◌+◌, ◌≤◌, ℕ, [], length, drop, get_or, arith, ap, sym, ◌∙◌}
+use Rattle.std.proofs.Common.{◌+◌, ℕ, drop, get_or, arith, ap, sym, ◌∙◌}
 use Rattle.std.specs.List.{between}
 use Rattle.std.proofs.lemmas.List.{drop_more}
 use Rattle.std.proofs.lemmas.List.Sums.{sum_by_more}
@@ -17,9 +17,9 @@ loop-i-preserved c =
       begun = omega arith;
       within = omega arith;
       rest = λ line.
-        ap (λ w. tokens_from line w (drop (c.loop-i.i + 1) c.args.bytes.now)) (between_more c.args.bytes.now c.args.from c.loop-i.i 0 c.loop-i.invariant.begun c.loop-i-test.true)
-        ∙ sym (dark line (between c.args.from c.loop-i.i c.args.bytes.now) (drop (c.loop-i.i + 1) c.args.bytes.now) (get_or c.args.bytes.now c.loop-i.i 0) is)
-        ∙ sym (ap (λ bs. tokens_from line (between c.args.from c.loop-i.i c.args.bytes.now) bs) (drop_more c.args.bytes.now c.loop-i.i 0 c.loop-i-test.true))
-        ∙ c.loop-i.invariant.rest line;
+          ap (λ w. tokens_from line w (drop (c.loop-i.i + 1) c.args.bytes.now)) (between_more c.args.bytes.now c.args.from c.loop-i.i 0 c.loop-i.invariant.begun c.loop-i-test.true)
+          ∙ sym (dark line (between c.args.from c.loop-i.i c.args.bytes.now) (drop (c.loop-i.i + 1) c.args.bytes.now) (get_or c.args.bytes.now c.loop-i.i 0) is)
+          ∙ sym (ap (λ bs. tokens_from line (between c.args.from c.loop-i.i c.args.bytes.now) bs) (drop_more c.args.bytes.now c.loop-i.i 0 c.loop-i-test.true))
+          ∙ c.loop-i.invariant.rest line;
       line = omega (arith, lines, c.loop-i.invariant.line, dark_line (get_or c.args.bytes.now c.loop-i.i 0) is);
     }
