@@ -4,3 +4,4 @@ pub mod Stops
 pub mod Law
 pub mod Once
 pub mod Near
+pub mod PlainLengths

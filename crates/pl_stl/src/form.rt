@@ -1,5 +1,5 @@
 //! What may stand where in a mesh text.
-ghost use Rattle.std.specs.Prelude.{◌≡◌, ◌≤◌, ◌+◌, ◌^◌, ℕ, length, slice_get};
+ghost use Rattle.std.specs.Prelude.{◌≡◌, ◌≤◌, ◌+◌, ◌^◌, ℕ, length, slice_get, MatchResult, Ok, Err};
 ghost use Rattle.pl_units.specs.Lengths.{length_of};
 ghost use Rattle.pl_stl.specs.Form.{text, is_keyword, form};
 ghost use Rattle.pl_stl.specs.Grammar.{of_number};
@@ -7,6 +7,7 @@ ghost use Rattle.pl_stl.specs.Reading.{blank, shifted, with_coordinate, taken, t
 
 use crate::fault::StlFault;
 use crate::mesh::{Facet, Point3};
+use crate::plain::plain;
 use pl_units::{Nm, NumberFault, read_mm};
 
 /// The most facets of a mesh.
@@ -146,27 +147,41 @@ fn number_fault(fault: NumberFault) -> StlFault
     }
 }
 
-// A facet after a word in a number's place.
-fn take_number(facet: Facet, word: &[u8]) -> Result<Facet, StlFault>
+// The length of a word, by the short way where the word is a plain numeral.
+fn read_length(word: &[u8]) -> Result<Nm, NumberFault>
     requires { length word.now ≤ 2 ^ 28 }
-    ensures { result ≡ with_coordinate facet (length_of word.now) }
+    ensures { result ≡ length_of word.now }
 {
-    match read_mm(word) {
-        Ok(coordinate) => Ok(with_coordinate_last(facet, coordinate)),
+    match plain(word) {
+        Some(length) => Ok(length),
+        None => read_mm(word),
+    }
+}
+
+// Puts a word in a number's place into a facet.
+fn put_number(facet: &mut Facet, word: &[u8]) -> Result<(), StlFault>
+    requires { length word.now ≤ 2 ^ 28 }
+    ensures { MatchResult result (λ _. with_coordinate facet.old (length_of word.now) ≡ Ok facet.new) (λ fault. with_coordinate facet.old (length_of word.now) ≡ Err fault) }
+{
+    match read_length(word) {
+        Ok(coordinate) => {
+            *facet = with_coordinate_last(*facet, coordinate);
+            Ok(())
+        }
         Err(fault) => Err(number_fault(fault)),
     }
 }
 
-// A facet after a word of a class, if it is one.
-fn take_word(class: Class, facet: Facet, word: &[u8]) -> Result<Facet, StlFault>
+// Puts a word of a class into a facet, if it is one.
+fn put_word(class: Class, facet: &mut Facet, word: &[u8]) -> Result<(), StlFault>
     requires { length word.now ≤ 2 ^ 28 }
-    ensures { result ≡ taken class facet word.now }
+    ensures { MatchResult result (λ _. taken class facet.old word.now ≡ Ok facet.new) (λ fault. taken class facet.old word.now ≡ Err fault) }
 {
     match class {
-        Class::Any => Ok(facet),
-        Class::Keyword(keyword) if is(word, keyword) => Ok(facet),
+        Class::Any => Ok(()),
+        Class::Keyword(keyword) if is(word, keyword) => Ok(()),
         Class::Keyword(_) => Err(StlFault::BadToken),
-        Class::Coordinate => take_number(facet, word),
+        Class::Coordinate => put_number(facet, word),
     }
 }
 
@@ -177,26 +192,14 @@ fn class_at(count: usize) -> Option<Class>
     FORM.get(count).copied()
 }
 
-// A facet after the word behind so many of its own, if the word may stand there.
-fn take_next(count: usize, facet: Facet, word: &[u8]) -> Result<Facet, StlFault>
+// Puts the word behind so many of a facet into it, if the word may stand there.
+fn put_next(count: usize, facet: &mut Facet, word: &[u8]) -> Result<(), StlFault>
     requires { length word.now ≤ 2 ^ 28 }
-    ensures { result ≡ taken_at (slice_get form count) facet word.now }
+    ensures { MatchResult result (λ _. taken_at (slice_get form count) facet.old word.now ≡ Ok facet.new) (λ fault. taken_at (slice_get form count) facet.old word.now ≡ Err fault) }
 {
     match class_at(count) {
-        Some(class) => take_word(class, facet, word),
+        Some(class) => put_word(class, facet, word),
         None => Err(StlFault::BadToken),
-    }
-}
-
-// What may stand next after a word inside a facet, and the facet that it ends.
-fn next_inside(count: usize, facet: Facet, word: &[u8]) -> Result<(Place, Option<Facet>), StlFault>
-    requires { length word.now ≤ 2 ^ 28 }
-    ensures { result ≡ inside (count + 1) (taken_at (slice_get form count) facet word.now) }
-{
-    match take_next(count, facet, word) {
-        Err(fault) => Err(fault),
-        Ok(facet) if count + 1 == FORM.len() => Ok((Place::Facets, Some(facet))),
-        Ok(facet) => Ok((Place::Inside(count + 1, facet), None)),
     }
 }
 
@@ -228,23 +231,48 @@ fn next_solid(word: &[u8], line: u32) -> Result<(Place, Option<Facet>), StlFault
     }
 }
 
-/// What may stand next after a word at a line, behind so many facets, and the facet that the word ends. The fault
-/// of a word that may not stand there.
-pub fn next(
-    place: Place,
+// Puts what may stand next into a place.
+fn put_place(
+    place: &mut Place,
+    next: Result<(Place, Option<Facet>), StlFault>,
+) -> Result<Option<Facet>, StlFault>
+    ensures { MatchResult result (λ facet. next ≡ Ok (place.new, facet)) (λ fault. next ≡ Err fault) }
+{
+    match next {
+        Ok((next, facet)) => {
+            *place = next;
+            Ok(facet)
+        }
+        Err(fault) => Err(fault),
+    }
+}
+
+/// Puts what may stand next after a word at a line, behind so many facets, into a place, and gives the facet that the
+/// word ends. The fault of a word that may not stand there.
+pub fn put_step(
+    place: &mut Place,
     found: usize,
     word: &[u8],
     line: u32,
-) -> Result<(Place, Option<Facet>), StlFault>
+) -> Result<Option<Facet>, StlFault>
     requires { length word.now ≤ 2 ^ 28 }
-    ensures { result ≡ step place found word.now line }
+    ensures { MatchResult result (λ facet. step place.old found word.now line ≡ Ok (place.new, facet)) (λ fault. step place.old found word.now line ≡ Err fault) }
 {
     match place {
-        Place::Outside => next_solid(word, line),
-        Place::Title(title) if title == line => Ok((place, None)),
-        Place::Title(_) | Place::Facets => next_facet(found, word, line),
-        Place::Inside(count, facet) => next_inside(count, facet, word),
-        Place::Tail(tail) if tail == line => Ok((place, None)),
-        Place::Tail(_) => next_solid(word, line),
+        Place::Inside(count, facet) => {
+            put_next(*count, facet, word)?;
+            if *count + 1 < FORM.len() {
+                *count += 1;
+                return Ok(None);
+            }
+            let whole = *facet;
+            *place = Place::Facets;
+            Ok(Some(whole))
+        }
+        Place::Outside => put_place(place, next_solid(word, line)),
+        Place::Title(title) if *title == line => Ok(None),
+        Place::Title(_) | Place::Facets => put_place(place, next_facet(found, word, line)),
+        Place::Tail(tail) if *tail == line => Ok(None),
+        Place::Tail(_) => put_place(place, next_solid(word, line)),
     }
 }

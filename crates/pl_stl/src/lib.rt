@@ -5,6 +5,7 @@ mod fault;
 mod form;
 mod laws;
 pub mod mesh;
+mod plain;
 mod read;
 
 pub use fault::StlFault;

@@ -1,14 +1,15 @@
 //! Reading a mesh from ASCII STL.
-ghost use Rattle.std.specs.Prelude.{◌≡◌, ◌≤◌, ◌^◌, ℕ, List, length, IfOk, MatchResult, Err, ◌⊎◌};
+ghost use Rattle.std.specs.Prelude.{◌≡◌, ◌<◌, ◌≤◌, ◌+◌, ◌^◌, ℕ, List, [], true, length, take, drop, get_or, sum_by, IfOk, MatchResult, Err, ◌⊎◌};
+ghost use Rattle.std.specs.List.{between};
 ghost use Rattle.pl_units.specs.declared.Refusal.TheVariants as refusals;
 ghost use Rattle.pl_stl.specs.declared.mesh.Facet.{Facet};
 ghost use Rattle.pl_stl.specs.declared.fault.StlFault.{StlFault};
-ghost use Rattle.pl_stl.specs.Tokens.{is_white_space, line_end};
+ghost use Rattle.pl_stl.specs.Tokens.{is_white_space, line_end, tokens_from, last_line};
 ghost use Rattle.pl_stl.specs.Grammar.{IsMeshText, IsFirstBreach};
 ghost use Rattle.pl_stl.specs.Reading.{Gives, after_word, finished, mesh_of};
 
 use crate::fault::StlFault;
-use crate::form::{Place, next};
+use crate::form::{Place, put_step};
 use crate::mesh::{Facet, Mesh};
 use pl_units::Refusal;
 use std::alloc::Global;
@@ -44,8 +45,8 @@ impl Reader {
         requires { length word.now ≤ 2 ^ 28 }
         ensures { Gives (λ _. state_of self.new) result (after (state_of self.old) record { word = word.now; line = line }) }
     {
-        let (place, facet) = match next(self.place, self.mesh.len(), word, line) {
-            Ok(found) => found,
+        let facet = match put_step(&mut self.place, self.mesh.len(), word, line) {
+            Ok(facet) => facet,
             Err(fault) => return Err(Refusal::Fault { line, fault }),
         };
         if let Some(facet) = facet {
@@ -53,7 +54,6 @@ impl Reader {
                 return Err(Refusal::NoMemory);
             }
         }
-        self.place = place;
         Ok(())
     }
 
@@ -81,6 +81,33 @@ impl Reader {
     }
 }
 
+// Where the word ends that begins at a place, or has no byte there.
+fn word_end(bytes: &[u8], from: usize) -> usize
+    requires { from ≤ length bytes.now }
+    ensures from { from ≤ result }
+    ensures within { result ≤ length bytes.now }
+    ensures white { result < length bytes.now → is_white_space (get_or bytes.now result 0) ≡ true }
+    ensures rest { (line : ℕ) → tokens_from line (between from result bytes.now) (drop result bytes.now) ≡ tokens_from line [] (drop from bytes.now) }
+    ensures line { sum_by line_end (take result bytes.now) ≡ sum_by line_end (take from bytes.now) }
+{
+    let mut i = from;
+    while i < bytes.len() && !is_white(bytes[i]) {
+        i += 1;
+    }
+    i
+}
+
+// The line of the last byte of a text at whose end this line stands.
+fn line_of_last(bytes: &[u8], line: u32) -> u32
+    requires { line ≡ 1 + sum_by line_end bytes.now }
+    ensures { result ≡ last_line bytes.now }
+{
+    match bytes {
+        [.., last] => line - line_ends(*last),
+        [] => line,
+    }
+}
+
 // The facets of a text.
 fn read_facets(alloc: Global, bytes: &[u8]) -> Result<Vec<Facet>, Refusal<StlFault>>
     requires { length bytes.now ≤ 2 ^ 28 }
@@ -91,18 +118,17 @@ fn read_facets(alloc: Global, bytes: &[u8]) -> Result<Vec<Facet>, Refusal<StlFau
         mesh: Vec::new(alloc),
     };
     let mut line = 1;
-    let mut last = 1;
     let mut start = 0;
-    for (i, b) in bytes.iter().enumerate() {
-        last = line;
-        if is_white(*b) {
-            reader.end_word(&bytes[start..i], line)?;
-            start = i + 1;
-            line += line_ends(*b);
+    while start < bytes.len() {
+        let end = word_end(bytes, start);
+        reader.end_word(&bytes[start..end], line)?;
+        start = end;
+        if end < bytes.len() {
+            line += line_ends(bytes[end]);
+            start = end + 1;
         }
     }
-    reader.end_word(&bytes[start..], line)?;
-    reader.finish(last)
+    reader.finish(line_of_last(bytes, line))
 }
 
 /// Reads the mesh of a text of any number of solids. A solid is `solid` and the rest of its line, any number of facets, and
