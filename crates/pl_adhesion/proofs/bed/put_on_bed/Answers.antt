@@ -12,9 +12,10 @@ loop-place-init c = (omega arith, put_none _ _ _ _ c.bounds-room.ensures.full)
 
 pub loop-place-preserved-then-not-has : goal.loop-place-preserved-then-not-has
 loop-place-preserved-then-not-has c =
-    let count = same_count _ _ c.cell_count-count.result c.bounds-bounds.ensures.value c.cell_count-count.ensures in
-    (omega (arith, count, c.alike_from-place.ensures.within),
-    put_skip_all _ _ _ _ _ _ _ _ _ c.loop-place.invariant.1 c.alike_from-place.ensures.within (place_from _ _ _ _ _ c.bounds-bounds.ensures.value c.cell_at-cell.ensures.column c.cell_at-cell.ensures.row) (sym c.has.ensures ∙ c.if-not-has.true) c.alike_from-place.ensures.alike)
+    let count = same_count _ _ c.cell_count-count.result c.bounds-bounds.ensures.value c.cell_count-count.ensures in (
+      omega (arith, count, c.alike_from-place.ensures.within),
+      put_skip_all _ _ _ _ _ _ _ _ _ c.loop-place.invariant.1 c.alike_from-place.ensures.within (place_from _ _ _ _ _ c.bounds-bounds.ensures.value c.cell_at-cell.ensures.column c.cell_at-cell.ensures.row) (sym c.has.ensures ∙ c.if-not-has.true) c.alike_from-place.ensures.alike,
+    )
 
 pub moved-moved-requires : goal.moved-moved-requires
 moved-moved-requires c =
@@ -34,9 +35,10 @@ fill-requires c =
 
 pub loop-place-preserved : goal.loop-place-preserved
 loop-place-preserved c =
-    let count = same_count _ _ c.cell_count-count.result c.bounds-bounds.ensures.value c.cell_count-count.ensures in
-    (omega (arith, c.loop-place-test.true),
-    put_cell _ _ _ _ _ _ _ _ _ _ _ c.loop-place.invariant.1 (omega (arith, count, c.loop-place-test.true)) (place_from _ _ _ _ _ c.bounds-bounds.ensures.value c.cell_at-cell.ensures.column c.cell_at-cell.ensures.row) (sym c.has.ensures ∙ c.if-not-has.false) c.moved-moved.ensures.x c.moved-moved.ensures.y c.fill.ensures)
+    let count = same_count _ _ c.cell_count-count.result c.bounds-bounds.ensures.value c.cell_count-count.ensures in (
+      omega (arith, c.loop-place-test.true),
+      put_cell _ _ _ _ _ _ _ _ _ _ _ c.loop-place.invariant.1 (omega (arith, count, c.loop-place-test.true)) (place_from _ _ _ _ _ c.bounds-bounds.ensures.value c.cell_at-cell.ensures.column c.cell_at-cell.ensures.row) (sym c.has.ensures ∙ c.if-not-has.false) c.moved-moved.ensures.x c.moved-moved.ensures.y c.fill.ensures,
+    )
 
 pub returns : goal.returns
 returns c =

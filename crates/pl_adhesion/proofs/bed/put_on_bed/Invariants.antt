@@ -1,4 +1,4 @@
-use Rattle.std.proofs.Common.{◌≡◌, ◌*◌, ◌-◌, ◌≤◌}
+use Rattle.std.proofs.Common.{◌-◌, ◌≤◌}
 use Rattle.pl_adhesion.proofs.BedLemmas.{IsPut}
 use Rattle.pl_adhesion.proofs.bed.put_on_bed.Given as goal
 

@@ -6,15 +6,17 @@ use Rattle.pl_adhesion.proofs.reach.filled_reach.Goals as goal
 
 pub loop-place-preserved-then-not-has : goal.loop-place-preserved-then-not-has
 loop-place-preserved-then-not-has c =
-    let count = same_count _ _ c.cell_count-count.result c.bounds-bounds.ensures.value c.cell_count-count.ensures in
-    (omega (arith, count, c.alike_from-place.ensures.within),
-    found_skip_all _ _ _ _ _ _ c.loop-place.invariant.1 c.alike_from-place.ensures.within (place_from _ _ _ _ _ c.bounds-bounds.ensures.value c.cell_at-cell.ensures.column c.cell_at-cell.ensures.row) (sym c.has.ensures ∙ c.if-not-has.true) c.alike_from-place.ensures.alike)
+    let count = same_count _ _ c.cell_count-count.result c.bounds-bounds.ensures.value c.cell_count-count.ensures in (
+      omega (arith, count, c.alike_from-place.ensures.within),
+      found_skip_all _ _ _ _ _ _ c.loop-place.invariant.1 c.alike_from-place.ensures.within (place_from _ _ _ _ _ c.bounds-bounds.ensures.value c.cell_at-cell.ensures.column c.cell_at-cell.ensures.row) (sym c.has.ensures ∙ c.if-not-has.true) c.alike_from-place.ensures.alike,
+    )
 
 pub loop-place-preserved : goal.loop-place-preserved
 loop-place-preserved c =
-    let count = same_count _ _ c.cell_count-count.result c.bounds-bounds.ensures.value c.cell_count-count.ensures in
-    (omega (arith, c.loop-place-test.true),
-    found_more _ _ _ _ _ _ c.loop-place.invariant.1 (omega (arith, count, c.loop-place-test.true)) (place_from _ _ _ _ _ c.bounds-bounds.ensures.value c.cell_at-cell.ensures.column c.cell_at-cell.ensures.row) (sym c.has.ensures ∙ c.if-not-has.false) c.with_cell.ensures)
+    let count = same_count _ _ c.cell_count-count.result c.bounds-bounds.ensures.value c.cell_count-count.ensures in (
+      omega (arith, c.loop-place-test.true),
+      found_more _ _ _ _ _ _ c.loop-place.invariant.1 (omega (arith, count, c.loop-place-test.true)) (place_from _ _ _ _ _ c.bounds-bounds.ensures.value c.cell_at-cell.ensures.column c.cell_at-cell.ensures.row) (sym c.has.ensures ∙ c.if-not-has.false) c.with_cell.ensures,
+    )
 
 pub returns-clause-value : goal.returns-clause-value
 returns-clause-value c =

@@ -1,4 +1,4 @@
-use Rattle.std.proofs.Common.{◌≡◌, ◌*◌, ◌-◌, ◌≤◌}
+use Rattle.std.proofs.Common.{◌-◌, ◌≤◌}
 use Rattle.pl_adhesion.proofs.ReachLemmas.{Found}
 use Rattle.pl_adhesion.proofs.reach.filled_reach.Given as goal
 
