@@ -8,3 +8,4 @@ pub mod LoopBounds
 pub mod BareLoops
 pub mod BrimLemmas
 pub mod SpreadLemmas
+pub mod Stretches

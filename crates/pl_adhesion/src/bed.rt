@@ -3,7 +3,7 @@ ghost use Rattle.std.specs.Prelude.{◌≡◌, ◌+ℤ◌, true};
 ghost use Rattle.pl_grid.specs.Planes.{is_inside};
 ghost use Rattle.pl_adhesion.specs.Bed.{IsRoomFor, bed_with};
 
-use crate::cells::{Cell, cell_at, cell_count, fill, has};
+use crate::cells::{Cell, alike_from, cell_at, cell_count, fill, has};
 use pl_grid::{Box2, Plane};
 
 /// Fills each cell of the bed on which a filled cell of `cells` comes to lie that is moved by `shift_x` columns
@@ -18,13 +18,17 @@ pub fn put_on_bed(bed: &mut Plane, cells: &Plane, shift_x: i32, shift_y: i32)
     };
     let room = bed.bounds();
     let bounds = cells.bounds();
-    for place in 0..cell_count(bounds) {
+    let count = cell_count(bounds);
+    let mut place = 0;
+    while place < count {
         let cell = cell_at(bounds, place);
         if !has(cells, &cell) {
+            place += alike_from(cells, place);
             continue;
         }
         let moved = moved(room, &cell, &shift);
         fill(bed, &moved);
+        place += 1;
     }
 }
 

@@ -1,5 +1,5 @@
 //! The cells of a plane, one after another.
-ghost use Rattle.std.specs.Prelude.{◌≡◌, ◌<◌, ◌*◌, ◌/◌, ◌%◌, ◌+ℤ◌, pos, true};
+ghost use Rattle.std.specs.Prelude.{◌≡◌, ◌<◌, ◌≤◌, ◌+◌, ◌*◌, ◌/◌, ◌%◌, ◌+ℤ◌, ℕ, pos, true};
 ghost use Rattle.pl_grid.specs.Extent.{IsNear};
 ghost use Rattle.pl_grid.specs.Planes.{filled, is_inside, with_cell};
 
@@ -40,6 +40,19 @@ pub(crate) fn has(plane: &Plane, cell: &Cell) -> bool
     ensures { result ≡ filled plane.now cell.now.x cell.now.y }
 {
     plane.get(cell.x, cell.y)
+}
+
+/// How many cells from the one with this number on are known to be like it, the first among them; all in its row.
+pub(crate) fn alike_from(plane: &Plane, place: usize) -> usize
+    requires { place < plane.now.bounds.cols * plane.now.bounds.rows }
+    ensures some { 0 < result }
+    ensures within { place + result ≤ plane.now.bounds.cols * plane.now.bounds.rows }
+    ensures alike { (k : ℕ) → k < result → filled plane.now (plane.now.bounds.x0 +ℤ pos ((place + k) % plane.now.bounds.cols)) (plane.now.bounds.y0 +ℤ pos ((place + k) / plane.now.bounds.cols)) ≡ filled plane.now (plane.now.bounds.x0 +ℤ pos (place % plane.now.bounds.cols)) (plane.now.bounds.y0 +ℤ pos (place / plane.now.bounds.cols)) }
+{
+    let bounds = plane.bounds();
+    let column = place % bounds.cols as usize;
+    let cell = cell_at(bounds, place);
+    plane.alike_in_row(column as u32, cell.y) as usize
 }
 
 /// Fills the cell, which the box must have.

@@ -3,7 +3,7 @@ ghost use Rattle.std.specs.Prelude.{◌≡◌, IfSome, MatchOption};
 ghost use Rattle.pl_adhesion.specs.Bed.{IsBare, IsOnBed};
 ghost use Rattle.pl_adhesion.specs.Reach.{reach_if, reach_with, span_with, IsNearReach};
 
-use crate::cells::{Cell, cell_at, cell_count, has};
+use crate::cells::{Cell, alike_from, cell_at, cell_count, has};
 use pl_grid::Plane;
 
 /// The least and the greatest of some columns or rows.
@@ -62,13 +62,17 @@ pub(crate) fn filled_reach(plane: &Plane) -> Option<Reach>
     ensures near { IfSome result IsNearReach }
 {
     let bounds = plane.bounds();
+    let count = cell_count(bounds);
     let mut reach = None;
-    for place in 0..cell_count(bounds) {
+    let mut place = 0;
+    while place < count {
         let cell = cell_at(bounds, place);
         if !has(plane, &cell) {
+            place += alike_from(plane, place);
             continue;
         }
         reach = Some(with_cell(&reach, &cell));
+        place += 1;
     }
     reach
 }

@@ -1,4 +1,5 @@
 pub mod Heights
 pub mod PathTexts
+pub mod Shares
 pub mod WorkedBox
 pub mod Written

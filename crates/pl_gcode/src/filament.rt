@@ -34,28 +34,40 @@ fn extruded(len: u64, height: u64, diameter: u64, percent: u16) -> u64
     ensures value { result ≡ extrusion_of len height diameter percent }
     ensures small { result < 2 ^ 63 }
 {
-    let volume = volume(len, height, percent);
     let area = area(diameter);
-    (volume / (area * 1000)) as u64
+    if len <= 230_000_000 {
+        return short_volume(len, height, percent) / area;
+    }
+    (volume(len, height, percent) / u128::from(area)) as u64
 }
 
-// The volume of the track, in percent of a cubic nanometre.
+// The volume of the track of a short move, in percent of a thousand cubic nanometres.
+fn short_volume(len: u64, height: u64, percent: u16) -> u64
+    requires len { len ≤ 230000000 }
+    requires height { height ≤ 1000000 }
+    requires percent { percent ≤ 200 }
+    ensures { result ≡ len * 400 * height * percent }
+{
+    len * 400 * height * u64::from(percent)
+}
+
+// The volume of the track, in percent of a thousand cubic nanometres.
 fn volume(len: u64, height: u64, percent: u16) -> u128
     requires len { len ≤ 9007199254740992 }
     requires height { height ≤ 1000000 }
     requires percent { percent ≤ 200 }
-    ensures value { result ≡ len * 400000 * height * percent }
-    ensures small { result ≤ 720575940379279360000000000000 }
+    ensures value { result ≡ len * 400 * height * percent }
+    ensures small { result ≤ 720575940379279360000000000 }
 {
-    u128::from(len) * 400_000 * u128::from(height) * u128::from(percent)
+    u128::from(len) * 400 * u128::from(height) * u128::from(percent)
 }
 
 // The area of the filament's section.
-fn area(diameter: u64) -> u128
+fn area(diameter: u64) -> u64
     requires low { 500000 ≤ diameter }
     requires high { diameter ≤ 5000000 }
     ensures value { result ≡ area_of diameter }
     ensures low { 190000000000 ≤ result }
 {
-    355 * u128::from(diameter) * u128::from(diameter) / 452
+    355 * diameter * diameter / 452
 }

@@ -72,7 +72,7 @@ impl Plane {
 
     /// How many cells of row `y` from a column on, counted from the box's corner, are known to be like it, the first
     /// among them.
-    pub(crate) fn alike_in_row(&self, column: u32, y: i32) -> u32
+    pub fn alike_in_row(&self, column: u32, y: i32) -> u32
         requires { column < self.now.bounds.cols }
         ensures some { 0 < result }
         ensures within { column + result ≤ self.now.bounds.cols }
