@@ -71,7 +71,7 @@ impl Plane {
     }
 
     /// How many cells of row `y` from a column on, counted from the box's corner, are known to be like it, the first
-    /// among them.
+    /// among them: at least 1, and none past the last column. In a row outside the box no cell is filled, so all are.
     pub fn alike_in_row(&self, column: u32, y: i32) -> u32
         requires { column < self.now.bounds.cols }
         ensures some { 0 < result }
@@ -83,7 +83,7 @@ impl Plane {
         match bounds.row(y) {
             Some(row) => {
                 let place = bounds.bit_place(column as usize, row);
-                alike_from(&self.words, place, left as usize) as u32
+                alike_from(&self.words, place, place + left as usize) as u32
             }
             None => left,
         }

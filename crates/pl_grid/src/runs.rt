@@ -161,8 +161,7 @@ impl Line<'_> {
         self.is_filled_on(self.plane.bounds().place_on(self.along, number))
     }
 
-    /// How many cells from one on are known to be like it, the first among them. Along rows they are those of
-    /// its word.
+    /// How many cells from one on are known to be like it, the first among them.
     fn alike(&self, number: u32) -> u32
         requires { number < line_length self.now.along self.now.plane.now.bounds }
         ensures some { 0 < result }

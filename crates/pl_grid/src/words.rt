@@ -39,6 +39,7 @@ impl Box2 {
         requires row { row < self.rows }
         ensures value { result ≡ bit_place self.cols row column }
         ensures within { result < 64 * (self.rows * words_of self.cols) }
+        ensures small { result < 67108864 }
     {
         64 * self.first_word(row) + column
     }
@@ -136,7 +137,7 @@ pub(crate) fn set_bit(words: &mut [u64], at: usize, value: bool)
 }
 
 /// How many bits from bit `at` on are alike, as far as its word tells, 1 to `most`.
-pub(crate) fn alike_from(words: &[u64], at: usize, most: usize) -> usize
+fn alike_in_word(words: &[u64], at: usize, most: usize) -> usize
     requires within { at < 64 * length words.now }
     requires most { 0 < most }
     ensures some { 0 < result }
@@ -144,6 +145,24 @@ pub(crate) fn alike_from(words: &[u64], at: usize, most: usize) -> usize
     ensures alike { (k : ℕ) → k < result → is_set words.now (at + k) ≡ is_set words.now at }
 {
     bits_alike(words[at / 64], at % 64).min(most)
+}
+
+/// How many bits from bit `at` to the last before bit `end` are alike, at least 1: the next, if any, differs.
+pub(crate) fn alike_from(words: &[u64], at: usize, end: usize) -> usize
+    requires some { at < end }
+    requires within { end ≤ 64 * length words.now }
+    ensures some { 0 < result }
+    ensures most { at + result ≤ end }
+    ensures alike { (k : ℕ) → k < result → is_set words.now (at + k) ≡ is_set words.now at }
+    ensures ended { at + result < end → is_set words.now (at + result) ≡ not (is_set words.now at) }
+{
+    let first = bit(words, at);
+    let most = end - at;
+    let mut count = alike_in_word(words, at, most);
+    while count < most && bit(words, at + count) == first {
+        count += alike_in_word(words, at + count, most - count);
+    }
+    count
 }
 
 /// Flips the bits below `x` of the row of `count` words that begins at word `start`.
