@@ -6,7 +6,7 @@ use Rattle.pl_grid.proofs.StrokeBounds.{near_strokes}
 use Rattle.pl_grid.specs.Lines.{line_count}
 use Rattle.pl_fill.specs.Turns.{line_strokes}
 use Rattle.pl_fill.proofs.Weave.{woven_none, woven_skip, woven_line, woven_all}
-use Rattle.pl_fill.proofs.filling.strokes.Goals as goal
+use Rattle.pl_fill.proofs.filling.strokes_by_rows.Goals as goal
 
 is_zero_length : (n m : ℕ) → (n == 0) ≡ true → n ≡ m → m ≡ 0
 is_zero_length n m e same = grind (arith, nat_tests)
