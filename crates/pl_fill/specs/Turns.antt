@@ -1,8 +1,11 @@
 -- The strokes of one line.
-use Rattle.std.specs.Prelude.{ℕ, Bool, List, [], map, reverse, if◌then◌else◌}
+use Rattle.std.specs.Prelude.{◌≡◌, ℤ, ℕ, Bool, List, [], map, reverse, if◌then◌else◌}
 use Rattle.pl_grid.specs.Extent.{IsNear}
+use Rattle.pl_grid.specs.Lines.{line_runs}
+use Rattle.pl_grid.specs.Planes.{Cells}
 use Rattle.pl_grid.specs.Strokes.{is_used, stroke_of, turned_back}
 use Rattle.pl_grid.specs.declared.stroke.Axis.{Axis}
+use Rattle.pl_grid.specs.declared.stroke.Axis.TheVariants.{Rows}
 use Rattle.pl_grid.specs.declared.stroke.Run.{Run}
 use Rattle.pl_grid.specs.declared.stroke.Stroke.{Stroke}
 
@@ -18,3 +21,7 @@ line_strokes axis back runs = if back then map turned_back (reverse (map (stroke
 pub record IsNearRun (run : Run) : Type 0 where
   pub first : IsNear run.first run.line
   pub last : IsNear run.last run.line
+
+-- the runs of each line of a plane along an axis are those of a row of another
+abbrev pub AreRowsOf : Axis → Cells → Cells → Type 0
+AreRowsOf axis p rows = (line : ℤ) → line_runs Rows rows line ≡ line_runs axis p line

@@ -5,22 +5,25 @@ ghost use Rattle.std.specs.Int.{int_rem_euclid};
 ghost use Rattle.pl_grid.specs.Extent.{IsExtent};
 ghost use Rattle.pl_grid.specs.Lines.{line_count, line_runs, first_line};
 ghost use Rattle.pl_grid.specs.Strokes.{is_zero, stroke_of, turned_back};
-ghost use Rattle.pl_fill.specs.Turns.{used_runs, line_strokes, IsNearRun};
+ghost use Rattle.pl_fill.specs.Turns.{used_runs, line_strokes, AreRowsOf, IsNearRun};
 
 use pl_grid::{Axis, Plane, Run, Stroke};
 use pl_units::NoMemory;
 use std::alloc::Global;
 
-/// The runs of the line with a number, where the line is a multiple of the step, and else none.
+/// The runs of the line with a number, where the line is a multiple of the step, and else none. The lines are the
+/// rows of another plane.
 pub(crate) fn runs_used(
     alloc: Global,
     plane: &Plane,
+    rows: &Plane,
     along: Axis,
     number: u32,
     step: u32,
 ) -> Result<Vec<Run>, NoMemory>
     requires step { 1 ≤ step }
     requires number { number < line_count along plane.now.bounds }
+    requires rows { AreRowsOf along plane.now rows.now }
     ensures runs { IfOk result (λ v. v.items ≡ used_runs step (line_runs along plane.now (first_line along plane.now.bounds +ℤ pos number))) }
     ensures near { IfOk result (λ v. All IsNearRun v.items) }
 {
@@ -29,7 +32,7 @@ pub(crate) fn runs_used(
     if !is_multiple(line, step) {
         return Ok(Vec::new(alloc));
     }
-    plane.runs_in(alloc, along, line)
+    rows.runs_in(alloc, Axis::Rows, line)
 }
 
 /// The line is a multiple of the step.

@@ -9,3 +9,4 @@ pub mod Setting
 pub mod StrokeBounds
 pub mod Toggling
 pub mod WordLemmas
+pub mod Turning

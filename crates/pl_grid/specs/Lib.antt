@@ -4,3 +4,4 @@ pub mod Planes
 pub mod Packed
 pub mod Strokes
 pub mod NearStrokes
+pub mod Turned

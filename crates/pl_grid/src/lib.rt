@@ -10,6 +10,7 @@ pub mod sets;
 pub mod stroke;
 #[cfg(test)]
 mod tests;
+mod turn;
 mod words;
 
 pub use extent::Box2;

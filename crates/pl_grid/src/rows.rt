@@ -158,7 +158,7 @@ pub(crate) fn dilate_words(
 }
 
 /// A word of a row, and no bits past its end.
-fn word_or_none(row: &[u64], at: usize) -> u64
+pub(crate) fn word_or_none(row: &[u64], at: usize) -> u64
     ensures { result ≡ slice_index row.now at }
 {
     if at < row.len() { row[at] } else { 0 }

@@ -4,9 +4,11 @@
 ghost use Rattle.std.specs.Prelude.{◌≡◌, ◌+◌, ◌*◌, ◌<◌, ◌≤◌, ◌&&◌, ℕ, length, slice_index, not, nat_lt, if◌then◌else◌};
 ghost use Rattle.pl_lanes.specs.Bits.{is_set, stays_set, comes_set, minus_word, moved_up, moved_down, eroded_word, dilated_word, toggled_word};
 
+mod square;
 #[cfg(test)]
 mod tests;
 
+pub use square::turned_square;
 use std::simd::prelude::*;
 
 /// Four words from `at` on, with the bits that are set in `row` and unset in `other`.
@@ -163,7 +165,7 @@ pub fn toggle_below(row: &mut [u64], x: usize)
 {
     let mut at = 0;
     let mut left = x;
-    while at < row.len() {
+    while at < row.len() && left > 0 {
         let count = left.min(64);
         row[at] = toggle_low(row[at], count);
         left -= count;

@@ -1,11 +1,13 @@
-use Rattle.std.proofs.Common.{◌-◌, ◌*◌, ◌/◌, ◌%◌, ◌<◌, slice_index, arith, ap, ◌∙◌, cond, not, min}
-use Rattle.pl_lanes.specs.Bits.{has_bit, is_set}
-use Rattle.pl_lanes.proofs.BitLemmas.{has_bit-toggled, below_in_word}
+use Rattle.std.proofs.Common.{◌*◌, ◌/◌, ◌<◌, ◌≤◌, arith}
+use Rattle.pl_lanes.proofs.ToggleLemmas.{toggled_done, toggled_each}
 use Rattle.pl_lanes.proofs.toggle_below.Goals as goal
 
-pub returns : goal.returns
-returns c k within =
+pub returns-else-left-gt0 : goal.returns-else-left-gt0
+returns-else-left-gt0 c k within =
+    let few : c.args.x ≤ 64 * c.loop-at.at = omega (arith, c.if-left-gt0.false) in
+    toggled_each c.args.row.now c.loop-at.row c.loop-at.at c.args.x k c.loop-at.invariant.done c.loop-at.invariant.rest few
+
+pub returns-after-loop-at : goal.returns-after-loop-at
+returns-after-loop-at c k within =
     let word : k / 64 < c.loop-at.at = omega (arith, c.loop-at-test.false, c.loop-at.auto.row) in
-    ap (λ w. has_bit w (k % 64)) (c.loop-at.invariant.done (k / 64) word)
-    ∙ has_bit-toggled (slice_index c.args.row.now (k / 64)) (min (c.args.x - 64 * (k / 64)) 64) (k % 64)
-    ∙ ap (λ b. cond b (not (is_set c.args.row.now k)) (is_set c.args.row.now k)) (below_in_word k c.args.x)
+    toggled_done c.args.row.now c.loop-at.row c.loop-at.at c.args.x k c.loop-at.invariant.done word

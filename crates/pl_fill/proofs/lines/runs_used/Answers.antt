@@ -21,17 +21,18 @@ pub returns-clause-runs : goal.returns-clause-runs
 returns-clause-runs c =
     let fits : FitsSigned w32 c.line-line.result = search rules in
     let test = simp to_z-of_z at c.is_multiple.ensures in
-    let runs = simp to_z-of_z at c.runs_in.ensures in
     let here : c.line-line.result ≡ first_line c.args.along c.args.plane.now.bounds +ℤ pos c.args.number = c.line-line.ensures ∙ ap (λ b. first_line c.args.along b +ℤ pos c.args.number) c.bounds-bounds.ensures.value in
+    let runs = simp to_z-of_z at c.runs_in.ensures in
     IfOk-weaker c.runs_in.result _ _ (λ v e.
     e
+    ∙ c.requires.rows c.line-line.result
     ∙ used_multiple c.args.along c.args.plane.now c.args.step c.line-line.result (sym test ∙ c.if-not-is_multiple.false)
     ∙ ap (λ line. used_runs c.args.step (line_runs c.args.along c.args.plane.now line)) here) runs
 
 pub returns-clause-near : goal.returns-clause-near
 returns-clause-near c =
     let fits : FitsSigned w32 c.line-line.result = search rules in
-    let runs = simp to_z-of_z at c.runs_in.ensures in
     let here : c.line-line.result ≡ first_line c.args.along c.args.plane.now.bounds +ℤ pos c.args.number = c.line-line.ensures ∙ ap (λ b. first_line c.args.along b +ℤ pos c.args.number) c.bounds-bounds.ensures.value in
     let P : List Run → Type 0 = All IsNearRun in
-    IfOk-weaker c.runs_in.result _ _ (λ v e. subst P (sym e) (near_line_runs c.args.along c.args.plane.now c.line-line.result c.args.number c.bounds-bounds.ensures.extent here c.requires.number)) runs
+    let runs = simp to_z-of_z at c.runs_in.ensures in
+    IfOk-weaker c.runs_in.result _ _ (λ v e. subst P (sym (e ∙ c.requires.rows c.line-line.result)) (near_line_runs c.args.along c.args.plane.now c.line-line.result c.args.number c.bounds-bounds.ensures.extent here c.requires.number)) runs
