@@ -9,7 +9,7 @@ loop-count-preserved c =
       some = omega (arith, c.loop-count.invariant.some);
       most = omega (arith, c.alike_in_word-count-in-loop-count.ensures.most, c.loop-count-test.true);
       alike = λ k less. by_lt k c.loop-count.count (λ low. c.loop-count.invariant.alike k low)
-        (λ high.
+          (λ high.
           let place : c.args.at + k ≡ c.args.at + c.loop-count.count + (k - c.loop-count.count) = omega (arith, high) in
           ap (λ i. is_set c.args.words.now i) place ∙ c.alike_in_word-count-in-loop-count.ensures.alike (k - c.loop-count.count) (omega (arith, high, less)) ∙ sym c.bit.ensures ∙ same ∙ c.bit-first.ensures);
     }
