@@ -1,7 +1,7 @@
 -- The loops of a plane, found from their starts point by point.
-use Rattle.std.proofs.Common.{◌≡◌, ℤ, pos, ◌+ℤ◌, ◌-ℤ◌, ◌≤ℤ◌, neg_ℤ, to_z, of_z, w32, ℕ, ◌<◌, ◌+◌, ◌*◌, Bool, true, false, Some, None, List, [], ◌∷◌, ◌++◌, map, length, replicate, refl, sym, ◌∙◌, ap, subst, arith, nat_lt}
+use Rattle.std.proofs.Common.{◌≡◌, inl, inr, zero, suc, ◌≤◌, ◌-◌, ℤ, pos, ◌+ℤ◌, ◌-ℤ◌, ◌≤ℤ◌, neg_ℤ, to_z, of_z, w32, ℕ, ◌<◌, ◌+◌, ◌*◌, Bool, true, false, Some, None, List, [], ◌∷◌, ◌++◌, map, length, replicate, refl, sym, ◌∙◌, ap, subst, arith, nat_lt}
 use Rattle.std.specs.declared.option.Option.{Option}
-use Rattle.std.proofs.lemmas.Bool.{and_parts}
+use Rattle.std.proofs.lemmas.Bool.{and_parts, cases_Bool}
 use Rattle.std.proofs.lemmas.Int.{ints}
 use Rattle.std.proofs.lemmas.List.{map-append, length-replicate}
 use Rattle.std.proofs.lemmas.Nat.{mul-add-lt}
@@ -9,10 +9,11 @@ use Rattle.pl_grid.specs.Extent.{Extent}
 use Rattle.pl_grid.specs.Planes.{Cells, filled}
 use Rattle.pl_grid.specs.declared.stroke.Corner.{Corner}
 use Rattle.pl_rings.specs.declared.side.Heading.{Heading}
+use Rattle.pl_rings.specs.Headings.{Around}
 use Rattle.pl_rings.specs.Cycles.{Permutes, cycle_of, is_marked, GoesRound}
 use Rattle.pl_rings.specs.Search.{cycles_below, free_start}
 use Rattle.pl_rings.specs.Sides.{around, side_at, side_count, number_of, rank_of, stands, next_number, loops_of}
-use Rattle.pl_rings.specs.Starts.{is_start, start_heading, starts}
+use Rattle.pl_rings.specs.Starts.{HasNoStarts, is_start, start_heading, starts}
 use Rattle.pl_rings.specs.Traces.{LoopTraced, LoopsBefore, loop_of}
 use Rattle.pl_rings.proofs.OpenPlaces.{AtPlace, IsStartAt, place_first, place_none, place_marked, place_more}
 use Rattle.pl_rings.proofs.OpenStarts.{AreStarts, FoundOpen}
@@ -91,22 +92,12 @@ place_in b row column = row * (b.cols + 1) + column
 row_after : (row wide : ℕ) → (row + 1) * wide ≡ row * wide + wide
 row_after row wide = grind arith
 
--- what holds at a column of a row: the cell to the left is known
-pub record InRow (p : Cells) (row column : ℕ) (found : List (List Corner)) (marks : List Bool) (west : Bool) : Type 0 where
-  pub before : LoopsBefore p (place_in p.bounds row column) found marks
-  pub cell : west ≡ (around p (column_x p.bounds column) (row_y p.bounds row)).northwest
-
--- the cell to the left of the next column
-next_cell : (p : Cells) (row column : ℕ) (east : Bool) → east ≡ (around p (column_x p.bounds column) (row_y p.bounds row)).northeast → east ≡ (around p (column_x p.bounds (column + 1)) (row_y p.bounds row)).northwest
-next_cell p row column east e =
-    let x : column_x p.bounds column ≡ column_x p.bounds (column + 1) -ℤ pos 1 = omega (arith, ints) in
-    e ∙ ap (λ z. filled p z (row_y p.bounds row)) x
-
-next_in : (p : Cells) (row column : ℕ) (found : List (List Corner)) (marks : List Bool) (east : Bool) → LoopsBefore p (place_in p.bounds row column + 1) found marks → east ≡ (around p (column_x p.bounds column) (row_y p.bounds row)).northeast → InRow p row (column + 1) found marks east
-next_in p row column found marks east w e =
+-- the place of the next column
+next_in : (p : Cells) (row column : ℕ) (found : List (List Corner)) (marks : List Bool) → LoopsBefore p (place_in p.bounds row column + 1) found marks → LoopsBefore p (place_in p.bounds row (column + 1)) found marks
+next_in p row column found marks w =
     let P : ℕ → Type 0 = λ n. LoopsBefore p n found marks in
     let place : place_in p.bounds row column + 1 ≡ place_in p.bounds row (column + 1) = omega arith in
-    record { before = subst P place w; cell = next_cell p row column east e }
+    subst P place w
 
 -- what is found at a point
 at_point : (p : Cells) (row column : ℕ) (start : Option Heading) → column < p.bounds.cols + 1 → row < p.bounds.rows + 1 → start ≡ start_heading (around p (column_x p.bounds column) (row_y p.bounds row)) → IsStartAt (starts p) (place_in p.bounds row column) (numbered (place_in p.bounds row column) start)
@@ -140,56 +131,70 @@ is_at p b row column cols x y e wide_is wide high ex left right ey bottom top = 
 around_there : (p : Cells) (row column : ℕ) (x y : ℤ) → IsAt p row column x y → around p x y ≡ around p (column_x p.bounds column) (row_y p.bounds row)
 around_there p row column x y a = ap (λ z. around p z y) a.x_is ∙ ap (around p (column_x p.bounds column)) a.y_is
 
--- at the first point of a row
-pub row_first : (p : Cells) (row : ℕ) (x y : ℤ) (found : List (List Corner)) (marks : List Bool) (west : Bool) → LoopsBefore p (row * (p.bounds.cols + 1)) found marks → IsAt p row 0 x y → west ≡ (around p x y).northwest → InRow p row 0 found marks west
-row_first p row x y found marks west w a e =
-    let P : ℕ → Type 0 = λ n. LoopsBefore p n found marks in
-    let place : row * (p.bounds.cols + 1) ≡ place_in p.bounds row 0 = omega arith in
-    record { before = subst P place w; cell = e ∙ ap (λ r. r.northwest) (around_there p row 0 x y a) }
-
--- the cell to the left of the point
-pub cell_there : (p : Cells) (row column : ℕ) (x y : ℤ) (found : List (List Corner)) (marks : List Bool) (west : Bool) → InRow p row column found marks west → IsAt p row column x y → west ≡ (around p x y).northwest
-cell_there p row column x y found marks west w a = w.cell ∙ ap (λ r. r.northwest) (sym (around_there p row column x y a))
-
 start_there : (p : Cells) (row column : ℕ) (x y : ℤ) (start : Option Heading) → IsAt p row column x y → start ≡ start_heading (around p x y) → start ≡ start_heading (around p (column_x p.bounds column) (row_y p.bounds row))
 start_there p row column x y start a e = e ∙ ap start_heading (around_there p row column x y a)
-
-east_there : (p : Cells) (row column : ℕ) (x y : ℤ) (east : Bool) → IsAt p row column x y → east ≡ (around p x y).northeast → east ≡ (around p (column_x p.bounds column) (row_y p.bounds row)).northeast
-east_there p row column x y east a e = e ∙ ap (λ r. r.northeast) (around_there p row column x y a)
 
 -- the heading found at a point is that of a start
 pub side_starts : (p : Cells) (row column : ℕ) (x y : ℤ) (h : Heading) → IsAt p row column x y → Some h ≡ start_heading (around p x y) → is_start (around p x y) h ≡ true
 side_starts p row column x y h a e =
     ap (λ r. is_start r h) (around_there p row column x y a) ∙ point_starts p row column h a.wide a.high (start_there p row column x y (Some h) a e)
 
-pub row_none : (p : Cells) (row column : ℕ) (x y : ℤ) (found : List (List Corner)) (marks : List Bool) (west east : Bool) → InRow p row column found marks west → IsAt p row column x y → None ≡ start_heading (around p x y) → east ≡ (around p x y).northeast → InRow p row (column + 1) found marks east
-row_none p row column x y found marks west east w a none e =
-    next_in p row column found marks east
-    (loops_none p (place_in p.bounds row column) found marks w.before (at_point p row column None a.wide a.high (start_there p row column x y None a none)))
-    (east_there p row column x y east a e)
+pub row_none : (p : Cells) (row column : ℕ) (x y : ℤ) (found : List (List Corner)) (marks : List Bool) → LoopsBefore p (place_in p.bounds row column) found marks → IsAt p row column x y → None ≡ start_heading (around p x y) → LoopsBefore p (place_in p.bounds row (column + 1)) found marks
+row_none p row column x y found marks w a none =
+    next_in p row column found marks
+    (loops_none p (place_in p.bounds row column) found marks w (at_point p row column None a.wide a.high (start_there p row column x y None a none)))
 
-pub row_marked : (p : Cells) (row column : ℕ) (x y : ℤ) (found : List (List Corner)) (marks : List Bool) (west east : Bool) → InRow p row column found marks west → IsAt p row column x y → is_marked marks (place_in p.bounds row column) ≡ true → east ≡ (around p x y).northeast → InRow p row (column + 1) found marks east
-row_marked p row column x y found marks west east w a met e =
-    next_in p row column found marks east (loops_marked p (place_in p.bounds row column) found marks w.before met) (east_there p row column x y east a e)
+pub row_marked : (p : Cells) (row column : ℕ) (found : List (List Corner)) (marks : List Bool) → LoopsBefore p (place_in p.bounds row column) found marks → is_marked marks (place_in p.bounds row column) ≡ true → LoopsBefore p (place_in p.bounds row (column + 1)) found marks
+row_marked p row column found marks w met =
+    next_in p row column found marks (loops_marked p (place_in p.bounds row column) found marks w met)
 
-pub row_more : (p : Cells) (row column : ℕ) (x y : ℤ) (h : Heading) (found : List (List Corner)) (old new : List Bool) (west east : Bool) (corners : List Corner) → InRow p row column found old west → IsAt p row column x y → Some h ≡ start_heading (around p x y) → is_marked old (place_in p.bounds row column) ≡ false → length new ≡ length old → LoopTraced p (number_of p.bounds (side_of x y h)) old new corners → east ≡ (around p x y).northeast → InRow p row (column + 1) (found ++ corners ∷ []) new east
-row_more p row column x y h found old new west east corners w a some fresh size t e =
+pub row_more : (p : Cells) (row column : ℕ) (x y : ℤ) (h : Heading) (found : List (List Corner)) (old new : List Bool) (corners : List Corner) → LoopsBefore p (place_in p.bounds row column) found old → IsAt p row column x y → Some h ≡ start_heading (around p x y) → is_marked old (place_in p.bounds row column) ≡ false → length new ≡ length old → LoopTraced p (number_of p.bounds (side_of x y h)) old new corners → LoopsBefore p (place_in p.bounds row (column + 1)) (found ++ corners ∷ []) new
+row_more p row column x y h found old new corners w a some fresh size t =
     let place : ℕ = place_in p.bounds row column in
     let P : ℕ → Type 0 = λ k. LoopTraced p k old new corners in
     let side : side_of x y h ≡ side_from p.bounds column row h = ap (λ z. side_of z y h) a.x_is ∙ ap (λ z. side_of (column_x p.bounds column) z h) a.y_is in
     let number : number_of p.bounds (side_of x y h) ≡ place * 4 + rank_of h = ap (number_of p.bounds) side ∙ number_from p.bounds column row h a.wide a.high in
-    next_in p row column (found ++ corners ∷ []) new east
-    (loops_more p place (place * 4 + rank_of h) found old new corners w.before (at_point p row column (Some h) a.wide a.high (start_there p row column x y (Some h) a some)) fresh size (subst P number t))
-    (east_there p row column x y east a e)
+    next_in p row column (found ++ corners ∷ []) new
+    (loops_more p place (place * 4 + rank_of h) found old new corners w (at_point p row column (Some h) a.wide a.high (start_there p row column x y (Some h) a some)) fresh size (subst P number t))
+
+-- points without a start are passed over
+pub row_skipped : (p : Cells) (row column n : ℕ) (found : List (List Corner)) (marks : List Bool) → row < p.bounds.rows + 1 → column + n ≤ p.bounds.cols + 1 → HasNoStarts p row column (column + n) → LoopsBefore p (place_in p.bounds row column) found marks → LoopsBefore p (place_in p.bounds row (column + n)) found marks
+row_skipped p row column zero found marks high wide none w =
+    let P : ℕ → Type 0 = λ k. LoopsBefore p (place_in p.bounds row k) found marks in
+    let e : column ≡ column + 0 = omega arith in
+    subst P e w
+row_skipped p row column (suc n) found marks high wide none w =
+    let P : ℕ → Type 0 = λ k. LoopsBefore p (place_in p.bounds row k) found marks in
+    let e : column + 1 + n ≡ column + suc n = omega arith in
+    subst P e (row_skipped p row (column + 1) n found marks high (omega (arith, wide)) (λ k low less. none k (omega (arith, low)) (omega (arith, less)))
+    (next_in p row column found marks
+    (loops_none p (place_in p.bounds row column) found marks w (at_point p row column None (omega (arith, wide)) high (none column (omega arith) (omega arith))))))
+
+-- where the two cells above a point are alike, no start leaves it
+no_start : (a : Around) → a.northeast ≡ a.northwest → None ≡ start_heading a
+no_start a e = elim (cases_Bool a.northeast) [
+  | inl here ↦ let west : a.northwest ≡ true = sym e ∙ here in rw (here, west) refl
+  | inr here ↦ let west : a.northwest ≡ false = sym e ∙ here in rw (here, west) refl
+]
+
+-- the points between alike cells have no start
+pub alike_starts : (p : Cells) (row column n : ℕ) → ((k : ℕ) → k < n → filled p (p.bounds.x0 +ℤ pos (column + k)) (row_y p.bounds row) ≡ filled p (p.bounds.x0 +ℤ pos column) (row_y p.bounds row)) → HasNoStarts p row (column + 1) (column + n)
+alike_starts p row column n alike k low high =
+    let x : ℤ = column_x p.bounds k in
+    let east : column_x p.bounds k ≡ p.bounds.x0 +ℤ pos (column + (k - column)) = omega (arith, ints, low) in
+    let west : column_x p.bounds k -ℤ pos 1 ≡ p.bounds.x0 +ℤ pos (column + (k - column - 1)) = omega (arith, ints, low) in
+    no_start (around p x (row_y p.bounds row))
+    (ap (λ z. filled p z (row_y p.bounds row)) east ∙ alike (k - column) (omega (arith, low, high))
+    ∙ sym (ap (λ z. filled p z (row_y p.bounds row)) west ∙ alike (k - column - 1) (omega (arith, low, high))))
 
 -- the place of a point has a mark
-pub place_small : (p : Cells) (row column : ℕ) (found : List (List Corner)) (marks : List Bool) (west : Bool) → InRow p row column found marks west → column < p.bounds.cols + 1 → row < p.bounds.rows + 1 → place_in p.bounds row column < length marks
-place_small p row column found marks west w wide high =
+pub place_small : (p : Cells) (row column : ℕ) (found : List (List Corner)) (marks : List Bool) → LoopsBefore p (place_in p.bounds row column) found marks → column < p.bounds.cols + 1 → row < p.bounds.rows + 1 → place_in p.bounds row column < length marks
+place_small p row column found marks w wide high =
     let within : row * (p.bounds.cols + 1) + column < (p.bounds.cols + 1) * (p.bounds.rows + 1) = mul-add-lt row (p.bounds.cols + 1) column (p.bounds.rows + 1) high wide in
-    omega (arith, within, w.before.size)
+    omega (arith, within, w.size)
 
-pub row_last : (p : Cells) (row column : ℕ) (found : List (List Corner)) (marks : List Bool) (west : Bool) → InRow p row column found marks west → column ≡ p.bounds.cols + 1 → LoopsBefore p ((row + 1) * (p.bounds.cols + 1)) found marks
-row_last p row column found marks west w e =
+pub row_last : (p : Cells) (row column : ℕ) (found : List (List Corner)) (marks : List Bool) → LoopsBefore p (place_in p.bounds row column) found marks → column ≡ p.bounds.cols + 1 → LoopsBefore p ((row + 1) * (p.bounds.cols + 1)) found marks
+row_last p row column found marks w e =
     let P : ℕ → Type 0 = λ n. LoopsBefore p n found marks in
     let place : place_in p.bounds row column ≡ (row + 1) * (p.bounds.cols + 1) = ap (λ c. row * (p.bounds.cols + 1) + c) e ∙ sym (row_after row (p.bounds.cols + 1)) in
-    subst P place w.before
+    subst P place w

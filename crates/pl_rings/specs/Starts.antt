@@ -1,5 +1,5 @@
 -- The sides that may be the least of their loop.
-use Rattle.std.specs.Prelude.{ℕ, Bool, false, ◌&&◌, ◌||◌, not, nat_lt, if◌then◌else◌}
+use Rattle.std.specs.Prelude.{ℕ, Bool, false, ◌≡◌, ◌≤◌, ◌<◌, ◌+ℤ◌, pos, ◌&&◌, ◌||◌, not, nat_lt, if◌then◌else◌}
 use Rattle.std.specs.declared.option.Option.{Option}
 use Rattle.std.specs.declared.option.Option.TheVariants.{Some, None}
 use Rattle.pl_grid.specs.Planes.{Cells}
@@ -22,3 +22,7 @@ starts p k = nat_lt k (side_count p.bounds) && is_start (around p (side_at p.bou
 -- the heading of the start at a point
 abbrev pub start_heading : Around → Option Heading
 start_heading a = if a.northeast then (if a.northwest || a.southwest || a.southeast then None else Some East) else if a.northwest && a.southeast then Some North else None
+
+-- no point of a row has a start from one column up to another, counted from the corner of the box
+abbrev pub HasNoStarts : Cells → ℕ → ℕ → ℕ → Type 0
+HasNoStarts p row from to = (k : ℕ) → from ≤ k → k < to → None ≡ start_heading (around p (p.bounds.x0 +ℤ pos k) (p.bounds.y0 +ℤ pos row))

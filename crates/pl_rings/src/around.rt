@@ -9,7 +9,7 @@ use crate::side::Heading;
 use pl_grid::Plane;
 
 /// Whether the cell above and to the right of a point is filled.
-pub(crate) fn northeast(plane: &Plane, x: i32, y: i32) -> bool
+fn northeast(plane: &Plane, x: i32, y: i32) -> bool
     requires { IsNear x y }
     ensures { result ≡ (around plane.now x y).northeast }
 {
@@ -17,7 +17,7 @@ pub(crate) fn northeast(plane: &Plane, x: i32, y: i32) -> bool
 }
 
 /// Whether the cell above and to the left of a point is filled.
-pub(crate) fn northwest(plane: &Plane, x: i32, y: i32) -> bool
+fn northwest(plane: &Plane, x: i32, y: i32) -> bool
     requires { neg_ℤ (pos 100000) ≤ℤ x }
     ensures { result ≡ (around plane.now x y).northwest }
 {
@@ -66,20 +66,13 @@ pub(crate) fn turn(plane: &Plane, x: i32, y: i32, heading: Heading) -> Heading
     heading.to_the_left()
 }
 
-/// The heading of the side that leaves the point and may be the least of its loop, where the cells above the
-/// point are known.
-pub(crate) fn start_heading(
-    plane: &Plane,
-    x: i32,
-    y: i32,
-    northwest: bool,
-    northeast: bool,
-) -> Option<Heading>
-    requires near { IsNear x y }
-    requires northwest { northwest ≡ (around plane.now x y).northwest }
-    requires northeast { northeast ≡ (around plane.now x y).northeast }
+/// The heading of the side that leaves the point and may be the least of its loop.
+pub(crate) fn start_heading(plane: &Plane, x: i32, y: i32) -> Option<Heading>
+    requires { IsNear x y }
     ensures { result ≡ start_heading (around plane.now x y) }
 {
+    let northwest = northwest(plane, x, y);
+    let northeast = northeast(plane, x, y);
     if northwest == northeast {
         return None;
     }

@@ -1,9 +1,10 @@
 //! The loops of a plane, found from their starts.
-ghost use Rattle.std.specs.Prelude.{◌≡◌, ◌<◌, ◌+◌, ◌*◌, false, replicate, IfOk};
+ghost use Rattle.std.specs.Prelude.{◌≡◌, ◌<◌, ◌≤◌, ◌+◌, ◌*◌, false, replicate, IfOk};
 ghost use Rattle.pl_rings.specs.Sides.{loops_of};
+ghost use Rattle.pl_rings.specs.Starts.{HasNoStarts};
 ghost use Rattle.pl_rings.specs.Traces.{LoopsBefore};
 
-use crate::around::{northeast, northwest, start_heading};
+use crate::around::start_heading;
 use crate::loop_trace::trace;
 use crate::numbers::{column_x, point_count, row_y};
 use crate::side::Side;
@@ -41,27 +42,59 @@ fn add_row(
     requires before { LoopsBefore plane.now (row * (plane.now.bounds.cols + 1)) found.old.items marks.old.items }
     ensures { IfOk result (λ _. LoopsBefore plane.now ((row + 1) * (plane.now.bounds.cols + 1)) found.new.items marks.new.items) }
 {
-    let bounds = plane.bounds();
-    let points = bounds.cols + 1;
-    let first = row as usize * points as usize;
-    let y = row_y(bounds, row);
-    let mut northwest = northwest(plane, column_x(bounds, 0), y);
-    for column in 0..points {
-        let x = column_x(bounds, column);
-        let northeast = northeast(plane, x, y);
-        let start = start_heading(plane, x, y, northwest, northeast);
-        northwest = northeast;
-        let heading = match start {
-            Some(heading) => heading,
-            None => continue,
-        };
-        if marks[first + column as usize] {
-            continue;
-        }
-        let start = Side { x, y, heading };
-        let corners = trace(alloc, plane, &start, marks)?;
-        found.push(Loop::of(corners))?;
+    let points = plane.bounds().cols + 1;
+    let mut column = 0;
+    while column < points {
+        add_point(alloc, plane, row, column, marks, found)?;
+        column = next_column(plane, row, column);
     }
+    Ok(())
+}
+
+/// The next column after one in which a row of points may have a start: at the points between, the two cells above
+/// are alike.
+fn next_column(plane: &Plane, row: u32, column: u32) -> u32
+    requires row { row < plane.now.bounds.rows + 1 }
+    requires column { column < plane.now.bounds.cols + 1 }
+    ensures later { column < result }
+    ensures within { result ≤ plane.now.bounds.cols + 1 }
+    ensures none { HasNoStarts plane.now row (column + 1) result }
+{
+    let bounds = plane.bounds();
+    if column == bounds.cols {
+        return column + 1;
+    }
+    column + plane.alike_in_row(column, row_y(bounds, row))
+}
+
+/// Adds the loop whose least side starts in a point, where there is one.
+fn add_point(
+    alloc: Global,
+    plane: &Plane,
+    row: u32,
+    column: u32,
+    marks: &mut Vec<bool>,
+    found: &mut Vec<Loop>,
+) -> Result<(), NoMemory>
+    requires row { row < plane.now.bounds.rows + 1 }
+    requires column { column < plane.now.bounds.cols + 1 }
+    requires before { LoopsBefore plane.now (row * (plane.now.bounds.cols + 1) + column) found.old.items marks.old.items }
+    ensures { IfOk result (λ _. LoopsBefore plane.now (row * (plane.now.bounds.cols + 1) + (column + 1)) found.new.items marks.new.items) }
+{
+    let bounds = plane.bounds();
+    let x = column_x(bounds, column);
+    let y = row_y(bounds, row);
+    let heading = match start_heading(plane, x, y) {
+        Some(heading) => heading,
+        None => return Ok(()),
+    };
+    let place = row as usize * (bounds.cols as usize + 1) + column as usize;
+    if marks[place] {
+        return Ok(());
+    }
+    let start = Side { x, y, heading };
+    let corners = trace(alloc, plane, &start, marks)?;
+    found.push(Loop::of(corners))?;
     Ok(())
 }
 
