@@ -143,7 +143,7 @@ loop-pass-preserved g c = let t = g.T.Technology in
       one = was.one;
       unused = pushed_all c.loop-pass.idle.items _ pass (λ p. IsIdle c.args.desk.now.lock.now p) pushed.items was.unused (subst (λ p. IsIdle c.args.desk.now.lock.now p) (sym s.idle.0) (idle_is c.args.desk.now.lock.now (c.loop-pass.number + 1) _ fresh.0 (omega (arith, high))));
       seated = subst (λ ns. AreSeated script c.args.desk.now.workers ((c.loop-pass.number + 1) + 1) (map (λ c. c.actor) c.loop-pass.crews.items) ns) (sym numbers)
-          (seated_idle script c.args.desk.now.workers (c.loop-pass.number + 1) _ _ (number pass) was.seated mine (λ small. own ∙ s.idle.1 small));
+          (seated_idle script c.args.desk.now.workers (c.loop-pass.number + 1) _ _ (number pass) was.seated mine (λ small. own ∙ s.idle.1.0 small));
       room = room_stays _ _ c.in-Some.pass _ _ it was.room;
       idle_room = room_left _ _ c.in-Some.pass _ _ _ _ it pushed.len pushed.capacity was.idle_room;
     }
