@@ -1,11 +1,10 @@
-use Rattle.std.proofs.Common.{◌≡◌, ◌+◌, ◌≤◌, ◌++◌, ◌∷◌, [], drop, get_or, length, map, ap, sym, subst, ◌∙◌, arith, refl, suc}
+use Rattle.std.proofs.Common.{◌≡◌, ◌+◌, drop, get_or, length, map, ap, sym, subst, ◌∙◌, arith}
 use Rattle.std.specs.Prelude.{All}
 use Rattle.std.specs.Arc.{arc_value}
 use Rattle.std.specs.Vec.Iter.{into_iter_items}
 use Rattle.std.proofs.lemmas.Grind.{common_steps}
-use Rattle.std.proofs.lemmas.List.Elements.{All-drop, All-push, All-weaker}
+use Rattle.std.proofs.lemmas.List.Elements.{All-drop}
 use Rattle.pl_epochs.specs.Words.{table_of}
-use Rattle.pl_machine.specs.Tickets.{number_of}
 use Rattle.pl_order.specs.Ended.{commands_for}
 use Rattle.pl_turn.specs.Passes.{number}
 use Rattle.pl_runs.specs.Places.{AreFresh, IsIdle}

@@ -1,8 +1,6 @@
-use Rattle.std.proofs.Common.{◌≡◌, ◌+◌, ◌∷◌, ◌++◌, [], ◌≤◌, map, length, ap, sym, subst, ◌∙◌, arith, refl}
-use Rattle.std.specs.Prelude.{All}
+use Rattle.std.proofs.Common.{◌≡◌, ◌∷◌, ◌++◌, [], ◌≤◌, map, length, ap, sym, subst, ◌∙◌, arith, refl}
 use Rattle.std.specs.Arc.{arc_value}
-use Rattle.std.proofs.lemmas.List.Elements.{All-cons, All-nil}
-use Rattle.pl_ports.specs.declared.gate.Actor.TheVariants.{Session}
+use Rattle.std.proofs.lemmas.List.Elements.{All-nil}
 use Rattle.pl_epochs.specs.Words.{table_of}
 use Rattle.pl_machine.specs.Tickets.{number_of}
 use Rattle.pl_order.specs.Ended.{commands_for}
