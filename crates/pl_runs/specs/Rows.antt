@@ -18,6 +18,7 @@ use Rattle.pl_plant.specs.declared.plant.Plant.{Plant}
 use Rattle.pl_runner.specs.Closing.{epochs_of}
 use Rattle.pl_runs.specs.declared.crew.Account.{Account}
 use Rattle.pl_runs.specs.declared.crew.Crew.{Crew}
+use Rattle.pl_runs.specs.declared.crew.Desk.{Desk}
 use Rattle.pl_runs.specs.Places.{Place, place_of, place_of_some}
 use Rattle.pl_runs.specs.Script.{commands_at}
 use Rattle.pl_runs.specs.Seats.{AreSeated, HasSeat, IsSeated}
@@ -40,20 +41,24 @@ module _ {T P E R O J B H : Type 0} {g : Ghosts (Plant T P E R O J B) (Entry T P
   abbrev pub places_in : Option (Pass (Plant T P E R O J B) (Entry T P E R O J B) H g) → List (Account T P E R O J B (Entry T P E R O J B) H g) → List (Pass (Plant T P E R O J B) (Entry T P E R O J B) H g) → List (Place (Entry T P E R O J B))
   places_in first accounts idle = (place_of_some first ++ map (λ a. place_of a.pass) accounts) ++ map (λ p. place_of p) idle
 
+  -- each account is of a runner that has ended with the commands of its actor
+  abbrev pub HaveEnded : Meaning P E R O → TurnLock (Plant T P E R O J B) (Entry T P E R O J B) H → (Actor → List (Command E)) → List (Account T P E R O J B (Entry T P E R O J B) H g) → Type 0
+  HaveEnded m lock commands accounts = All (λ a. HasEndedWith m lock (commands a.actor) a.actor a.pass a.runs) accounts
+
   -- what holds of all commands and workers with which these took part, where each account is of a runner that has ended with its own
   abbrev pub WhereAllEnded : Meaning P E R O → TurnLock (Plant T P E R O J B) (Entry T P E R O J B) H → List (Account T P E R O J B (Entry T P E R O J B) H g) → List (Pass (Plant T P E R O J B) (Entry T P E R O J B) H g)
       → ((ℕ → List (Command E)) → ℕ → Type 0) → Type 0
   WhereAllEnded m lock accounts idle F = (commands : ℕ → List (Command E)) (workers : ℕ) → AreSeated commands workers 25 (map (λ a. a.actor) accounts) (map (λ p. number p) idle)
-      → All (λ a. HasEndedWith m lock (commands_for commands a.actor) a.actor a.pass a.runs) accounts → F commands workers
+      → HaveEnded m lock (commands_for commands) accounts → F commands workers
 
 module _ {T P E R O J B G H : Type 0} {g : Ghosts (Plant T P E R O J B) (Entry T P E R O J B) H} (m : Meaning P E R O) (job_value : J → O) (runs : B → ℕ) where
-  -- the runner of a crew may be run, with the commands of its actor
-  abbrev pub IsCrewOf : TurnLock (Plant T P E R O J B) (Entry T P E R O J B) H → TableName → (Actor → List (Command E)) → Crew T G P E R O J B (Entry T P E R O J B) H g → Type 0
-  IsCrewOf lock table commands c = IsSeated m job_value runs lock table (commands c.actor) c.actor c.runner
+  -- the runner of a crew may be run at the lock and the table of this desk, with the commands of its actor
+  abbrev pub IsCrewOf : Desk T G P E R O J B (Entry T P E R O J B) H → (Actor → List (Command E)) → Crew T G P E R O J B (Entry T P E R O J B) H g → Type 0
+  IsCrewOf desk commands c = IsSeated m job_value runs desk.lock.now (table_of desk.epochs.now) (commands c.actor) c.actor c.runner
 
   -- the same of each crew, which runs at that lock and that table
-  abbrev pub AreCrewsOf : TurnLock (Plant T P E R O J B) (Entry T P E R O J B) H → TableName → (Actor → List (Command E)) → List (Crew T G P E R O J B (Entry T P E R O J B) H g) → Type 0
-  AreCrewsOf lock table commands crews = All (λ c. HasSeat m job_value runs lock table (commands c.actor) c.lock.now (table_of c.epochs.now) c.actor c.runner) crews
+  abbrev pub AreCrewsOf : Desk T G P E R O J B (Entry T P E R O J B) H → (Actor → List (Command E)) → List (Crew T G P E R O J B (Entry T P E R O J B) H g) → Type 0
+  AreCrewsOf desk commands crews = All (λ c. HasSeat m job_value runs desk.lock.now (table_of desk.epochs.now) (commands c.actor) c.lock.now (table_of c.epochs.now) c.actor c.runner) crews
 
 module _ {T P E R O J B G H : Type 0} {g : Ghosts (Plant T P E R O J B) (Entry T P E R O J B) H} (m : Meaning P E R O) where
   -- the account is what the crew's runner leaves where it has ended

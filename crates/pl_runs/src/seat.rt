@@ -36,7 +36,7 @@ fn of_session<'a, T: Technology, G>(
     requires callable { IsCallable (map arc_value commands.items) }
     ensures lock { (result.lock.now ≡ desk.now.lock.now) × (result.epochs.now ≡ desk.now.epochs.now) }
     ensures actor { result.actor ≡ Actor.Session id }
-    ensures runner { IsCrewOf T.meaning T.job_value T.runs desk.now.lock.now (table_of desk.now.epochs.now) (λ _. map arc_value commands.items) result }
+    ensures runner { IsCrewOf T.meaning T.job_value T.runs desk.now (λ _. map arc_value commands.items) result }
 {
     let runner = Runner::<T>::session(id, commands, pass, reader, T::bench());
     Crew {
@@ -62,7 +62,7 @@ fn of_worker<'a, T: Technology, G>(
     requires reader { reads_at reader ≡ table_of desk.now.epochs.now }
     ensures lock { (result.lock.now ≡ desk.now.lock.now) × (result.epochs.now ≡ desk.now.epochs.now) }
     ensures actor { result.actor ≡ Actor.Worker id }
-    ensures runner { IsCrewOf T.meaning T.job_value T.runs desk.now.lock.now (table_of desk.now.epochs.now) (λ _. []) result }
+    ensures runner { IsCrewOf T.meaning T.job_value T.runs desk.now (λ _. []) result }
 {
     let runner = Runner::<T>::worker(desk.alloc, id, pass, reader, T::bench());
     Crew {
@@ -93,7 +93,7 @@ fn crew_of<'a, T: Technology, G>(
     ensures lock { IfOk result (λ c. (c.lock.now ≡ desk.now.lock.now) × (c.epochs.now ≡ desk.now.epochs.now)) }
     ensures actor { IfOk result (λ c. number_of c.actor ≡ number) }
     ensures part { IfOk result (λ c. TakesPart (λ _. map arc_value commands.items) desk.now.workers c.actor) }
-    ensures runner { IfOk result (IsCrewOf T.meaning T.job_value T.runs desk.now.lock.now (table_of desk.now.epochs.now) (commands_for (λ _. map arc_value commands.items))) }
+    ensures runner { IfOk result (IsCrewOf T.meaning T.job_value T.runs desk.now (commands_for (λ _. map arc_value commands.items))) }
     ensures idle { IfErr result (λ p. (p ≡ pass) × HasNobody (map arc_value commands.items) desk.now.workers number) }
 {
     if number <= 16 {
@@ -122,7 +122,7 @@ pub(crate) fn seat<'a, T: Technology, G>(
     ensures lock { IfOk result (λ c. (c.lock.now ≡ desk.now.lock.now) × (c.epochs.now ≡ desk.now.epochs.now)) }
     ensures actor { IfOk result (λ c. number_of c.actor ≡ number) }
     ensures part { IfOk result (λ c. TakesPart (λ _. map arc_value commands.items) desk.now.workers c.actor) }
-    ensures runner { IfOk result (IsCrewOf T.meaning T.job_value T.runs desk.now.lock.now (table_of desk.now.epochs.now) (commands_for (λ _. map arc_value commands.items))) }
+    ensures runner { IfOk result (IsCrewOf T.meaning T.job_value T.runs desk.now (commands_for (λ _. map arc_value commands.items))) }
     ensures idle { IfErr result (λ p. (p ≡ pass) × HasNobody (map arc_value commands.items) desk.now.workers number) }
 {
     crew_of(desk, number, commands, pass, reader)

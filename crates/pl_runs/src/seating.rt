@@ -66,7 +66,7 @@ fn seat_first<'a, T: Technology, G>(
     requires callable { IsCallable (map arc_value commands.items) }
     requires empty { crews.items ≡ [] }
     requires room { 24 ≤ vec_capacity crews }
-    ensures crews { AreCrewsOf T.meaning T.job_value T.runs desk.now.lock.now (table_of desk.now.epochs.now) (λ _. map arc_value commands.items) result.0.items }
+    ensures crews { AreCrewsOf T.meaning T.job_value T.runs desk.now (λ _. map arc_value commands.items) result.0.items }
     ensures first { HasFirst desk.now.lock.now result.1 (map (λ c. c.actor) result.0.items) }
     ensures alone { IsFirstSeated result.1 (map (λ c. c.actor) result.0.items) (map arc_value commands.items) }
     ensures long { length result.0.items ≤ 1 }
@@ -98,7 +98,7 @@ fn seat_each<'a, T: Technology, G>(
     requires begins { MayBegin desk.now.lock.now (table_of desk.now.epochs.now) desk.now.workers (commands_in sessions.items) first rest.items (reads_at reader) }
     requires empty { (crews.items ≡ []) × (idle.items ≡ []) }
     requires room { (24 ≤ vec_capacity crews) × (24 ≤ vec_capacity idle) }
-    ensures crews { AreCrewsOf T.meaning T.job_value T.runs desk.now.lock.now (table_of desk.now.epochs.now) (commands_for (script_of sessions.items)) result.0.items }
+    ensures crews { AreCrewsOf T.meaning T.job_value T.runs desk.now (commands_for (script_of sessions.items)) result.0.items }
     ensures first { HasFirst desk.now.lock.now result.1 (map (λ c. c.actor) result.0.items) }
     ensures idle { All (λ p. IsIdle desk.now.lock.now p) result.2.items }
     ensures seated { AreSeated (script_of sessions.items) desk.now.workers 25 (map (λ c. c.actor) result.0.items) (map (λ p. number p) result.2.items) }
@@ -145,7 +145,7 @@ pub(crate) fn seat_all<'a, T: Technology, G>(
     requires rest { AreFresh desk.now.lock.now 2 rest.items }
     requires long { length rest.items ≡ 23 }
     requires reader { reads_at reader ≡ table_of desk.now.epochs.now }
-    ensures crews { IfOk result (λ r. AreCrewsOf T.meaning T.job_value T.runs desk.now.lock.now (table_of desk.now.epochs.now) (commands_for (script_of sessions.items)) r.0.items) }
+    ensures crews { IfOk result (λ r. AreCrewsOf T.meaning T.job_value T.runs desk.now (commands_for (script_of sessions.items)) r.0.items) }
     ensures first { IfOk result (λ r. HasFirst desk.now.lock.now r.1 (map (λ c. c.actor) r.0.items)) }
     ensures idle { IfOk result (λ r. All (λ p. IsIdle desk.now.lock.now p) r.2.items) }
     ensures seated { IfOk result (λ r. AreSeated (script_of sessions.items) desk.now.workers 25 (map (λ c. c.actor) r.0.items) (map (λ p. number p) r.2.items)) }
