@@ -1,6 +1,6 @@
 //! Threads for all crews, and what they give back.
 ghost use Rattle.std.specs.Thread.{IsSync};
-ghost use Rattle.std.specs.Prelude.{◌≡◌, ◌≤◌, ◌-◌, ◌^◌, [], All, IfOk, MatchOption, length, map, min, sum, vec_capacity};
+ghost use Rattle.std.specs.Prelude.{◌≡◌, ◌≤◌, ◌-◌, ◌^◌, [], All, IfOk, length, map, min, sum, vec_capacity};
 ghost use Rattle.std.specs.List.{AllZip};
 ghost use Rattle.pl_runs.specs.Rows.{IsAccountOf, MayGo};
 

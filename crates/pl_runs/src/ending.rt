@@ -1,14 +1,10 @@
 //! The end of a run: all passes joined, the lock closed, and the history that is complete.
-ghost use Rattle.std.specs.Prelude.{◌≡◌, ℕ, ◌≤◌, ◌++◌, ◌∷◌, [], List, All, Any, map};
-ghost use Rattle.pl_machine.specs.declared.entry.Command.{Command};
-ghost use Rattle.pl_machine.specs.Tickets.{number_of};
-ghost use Rattle.pl_order.specs.Ended.{commands_for};
+ghost use Rattle.std.specs.Prelude.{◌≡◌, ◌++◌, ◌∷◌, [], All, Any, map};
 ghost use Rattle.pl_order.specs.Order.{number_in};
 ghost use Rattle.pl_session.specs.Complete.{IsComplete, runs_of};
 ghost use Rattle.pl_turn.specs.Passes.{IsOf, joined, number, splits};
 ghost use Rattle.pl_runs.specs.Places.{IsIdle, IsOther, IsPlaced, place_of, place_of_some};
-ghost use Rattle.pl_runs.specs.Seats.{AreSeated, HasAll, HasFirst, IsAccount};
-ghost use Rattle.pl_runs.specs.Went.{HasEndedWith};
+ghost use Rattle.pl_runs.specs.Seats.{HasAll, HasFirst, IsAccount};
 ghost use Rattle.pl_runs.specs.Rows.{WhereAllEnded, places_in};
 
 use crate::Account;

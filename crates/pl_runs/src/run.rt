@@ -8,9 +8,8 @@ ghost use Rattle.pl_runner.specs.Closing.{epochs_of};
 ghost use Rattle.pl_session.specs.Complete.{IsComplete, runs_of};
 ghost use Rattle.pl_turn.specs.Passes.{number, splits};
 ghost use Rattle.pl_runs.specs.Places.{AreFresh, IsFresh, IsIdle};
-ghost use Rattle.pl_runs.specs.Script.{IsCallable, commands_at};
+ghost use Rattle.pl_runs.specs.Script.{IsCallable};
 ghost use Rattle.pl_runs.specs.Seats.{AreSeated, HasFirst, IsAccount};
-ghost use Rattle.pl_runs.specs.Went.{HasEndedWith};
 ghost use Rattle.pl_runs.specs.Rows.{HaveEnded, script_of};
 
 use crate::collecting::run_all;

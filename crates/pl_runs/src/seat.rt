@@ -1,5 +1,5 @@
 //! Who has a number: a session with a command, a worker, or nobody.
-ghost use Rattle.std.specs.Prelude.{◌≡◌, ◌≤◌, ◌<◌, ◌+◌, [], IfOk, IfErr, map};
+ghost use Rattle.std.specs.Prelude.{◌≡◌, ◌≤◌, ◌+◌, [], IfOk, IfErr, map};
 ghost use Rattle.std.specs.Arc.{arc_value};
 ghost use Rattle.pl_epochs.specs.Words.{reads_at, table_of};
 ghost use Rattle.pl_machine.specs.Tickets.{number_of};

@@ -1,10 +1,10 @@
 //! A seat for each number: crews for those who take part, and idle passes.
-ghost use Rattle.std.specs.Prelude.{◌≡◌, ◌≤◌, ◌-◌, ◌+◌, [], All, IfOk, MatchOption, drop, length, map, vec_capacity};
+ghost use Rattle.std.specs.Prelude.{◌≡◌, ◌≤◌, [], All, IfOk, drop, length, map, vec_capacity};
 ghost use Rattle.std.specs.Arc.{arc_value};
 ghost use Rattle.std.specs.Vec.Iter.{into_iter_items};
 ghost use Rattle.pl_epochs.specs.Words.{reads_at, table_of};
 ghost use Rattle.pl_order.specs.Ended.{commands_for};
-ghost use Rattle.pl_turn.specs.Passes.{number, own, splits};
+ghost use Rattle.pl_turn.specs.Passes.{number, splits};
 ghost use Rattle.pl_runs.specs.Places.{AreFresh, IsFresh, IsIdle};
 ghost use Rattle.pl_runs.specs.Script.{IsCallable, commands_at};
 ghost use Rattle.pl_runs.specs.Seats.{AreSeated, HasFirst, IsFirstSeated, MayBegin};
