@@ -8,7 +8,7 @@ ghost use Rattle.pl_runner.specs.Closing.{epochs_of};
 ghost use Rattle.pl_session.specs.Complete.{IsComplete, runs_of};
 ghost use Rattle.pl_turn.specs.Passes.{number, splits};
 ghost use Rattle.pl_runs.specs.Places.{AreFresh, IsFresh, IsIdle};
-ghost use Rattle.pl_runs.specs.Script.{IsCallable};
+ghost use Rattle.pl_runs.specs.Script.{IsCallable, commands_at};
 ghost use Rattle.pl_runs.specs.Seats.{AreSeated, HasFirst, IsAccount};
 ghost use Rattle.pl_runs.specs.Rows.{HaveEnded, script_of};
 
@@ -79,7 +79,7 @@ pub fn run_sessions<T: Sent, R: Threads + Wait + Sync, G: Gate + Sync>(
     requires few { length sessions.items ≤ 16 }
     requires workers { workers ≤ 8 }
     requires callable { All IsCallable (map (λ s. map arc_value s.items) sessions.items) }
-    ensures complete { IfOk result (λ ended. IsComplete T.meaning (script_of sessions.items) workers ended.journal.items) }
+    ensures complete { IfOk result (λ ended. IsComplete T.meaning (commands_at (map (λ s. map arc_value s.items) sessions.items)) workers ended.journal.items) }
     ensures runs { IfOk result (λ ended. ended.runs ≡ runs_of ended.journal.items) }
 {
     let asked = asked(&sessions);
