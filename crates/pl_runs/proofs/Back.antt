@@ -1,5 +1,5 @@
 -- From the seat of a runner to its account.
-use Rattle.std.proofs.Common.{◌≡◌, ℕ, List, [], ap, sym, subst, ◌∙◌, Option, Some, None}
+use Rattle.std.proofs.Common.{◌≡◌, ℕ, List, ap, sym, subst, ◌∙◌, Option, Some, None}
 use Rattle.std.specs.Prelude.{MatchOption}
 use Rattle.pl_tech.specs.Technology.{Meaning}
 use Rattle.pl_ports.specs.declared.gate.Actor.{Actor}

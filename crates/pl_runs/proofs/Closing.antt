@@ -1,7 +1,7 @@
 -- All passes joined: where each of them stands, and that each number has one.
-use Rattle.std.proofs.Common.{◌≡◌, ◌≢◌, ◌⊎◌, ℕ, ◌<◌, ◌≤◌, ◌+◌, List, [], ◌∷◌, ◌++◌, length, map, get_or, refl, ap, sym, subst, ◌∙◌, inl, inr, ⊎_elim, arith, append_assoc, Option, Some, None}
+use Rattle.std.proofs.Common.{◌≡◌, ◌⊎◌, ℕ, ◌<◌, ◌≤◌, List, ◌∷◌, ◌++◌, map, ap, sym, subst, ◌∙◌, ⊎_elim, arith, Option}
 use Rattle.std.specs.Prelude.{All, Any}
-use Rattle.std.proofs.lemmas.List.Elements.{All-cons, All-map, All-weaker}
+use Rattle.std.proofs.lemmas.List.Elements.{All-map, All-weaker}
 use mathlib.Core.List.{IsPrefix}
 use Rattle.pl_ports.specs.declared.gate.Actor.{Actor}
 use Rattle.pl_machine.specs.Tickets.{number_of}
@@ -10,10 +10,10 @@ use Rattle.pl_turn.specs.declared.lock.TurnLock.{TurnLock}
 use Rattle.pl_turn.specs.declared.lock.Pass.{Pass}
 use Rattle.pl_turn.specs.declared.view.Joined.{Joined}
 use Rattle.pl_turn.specs.History.{HasItsEntries, HasSeen, made_by}
-use Rattle.pl_turn.specs.Passes.{IsOf, joined, number, own, seen, splits}
-use Rattle.pl_runs.specs.Places.{IsIdle, IsOther, IsPlaced, Place, place_in, place_of, place_of_some}
-use Rattle.pl_runs.specs.Seats.{HasAll, HasFirst, IsAccount}
-use Rattle.pl_runs.proofs.Lists.{any_cons, any_from_map, any_left, any_right, any_to_map, any_wider, all_holds, any_more, here, prefix_trans}
+use Rattle.pl_turn.specs.Passes.{number, own, seen}
+use Rattle.pl_runs.specs.Places.{IsPlaced, Place, place_in, place_of, place_of_some}
+use Rattle.pl_runs.specs.Seats.{HasAll, IsAccount}
+use Rattle.pl_runs.proofs.Lists.{any_cons, any_from_map, any_left, any_right, any_to_map, any_more, here, prefix_trans}
 
 module _ {E : Type 0} (caller : E → ℕ) (history : List E) where
   -- the passes that were joined stand where they should

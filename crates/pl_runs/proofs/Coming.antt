@@ -1,5 +1,5 @@
 -- What a runner leaves that has run to its end.
-use Rattle.std.proofs.Common.{◌≡◌, ℕ, ◌+◌, ◌==◌, List, [], filter, refl, ap, sym, subst, ◌∙◌, arith, Option, Some, None, Result, Ok}
+use Rattle.std.proofs.Common.{◌≡◌, ℕ, ◌==◌, filter, ap, sym, subst, ◌∙◌, arith, None, Result, Ok}
 use Rattle.std.specs.Prelude.{OnOk}
 use Rattle.std.specs.Option.{option_map}
 use Rattle.pl_units.specs.declared.NoMemory.{NoMemory}
@@ -8,7 +8,7 @@ use Rattle.pl_ports.specs.declared.gate.Actor.{Actor}
 use Rattle.pl_turn.specs.declared.turned.Turned.{Ghosts}
 use Rattle.pl_turn.specs.declared.lock.TurnLock.{TurnLock}
 use Rattle.pl_turn.specs.declared.lock.Pass.{Pass}
-use Rattle.pl_turn.specs.Passes.{IsOf, known, joined, number, own, seen, splits}
+use Rattle.pl_turn.specs.Passes.{IsOf, known, number, own, seen}
 use Rattle.pl_epochs.specs.declared.seats.TableName.{TableName}
 use Rattle.pl_machine.specs.declared.entry.Entry.{Entry}
 use Rattle.pl_machine.specs.Tickets.{number_of}

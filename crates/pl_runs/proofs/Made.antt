@@ -1,9 +1,8 @@
 -- The history of a lock that was closed was made by the runners whose passes were joined.
-use Rattle.std.proofs.Common.{◌≡◌, ◌≢◌, ◌⊎◌, ℕ, ◌<◌, ◌≤◌, ◌+◌, List, [], ◌∷◌, ◌++◌, length, map, get_or, refl, ap, sym, subst, ◌∙◌, inl, inr, ⊎_elim, arith, sum, Option, Some, None}
-use Rattle.std.specs.Prelude.{All, AllPairs, Any}
+use Rattle.std.proofs.Common.{◌≡◌, ◌≢◌, ◌⊎◌, ℕ, ◌<◌, List, [], ◌++◌, length, map, get_or, refl, ap, sym, subst, ◌∙◌, inl, inr, ⊎_elim, arith, sum, Option, Some, None}
+use Rattle.std.specs.Prelude.{All, Any}
 use Rattle.std.proofs.lemmas.List.Elements.{All-append, All-cons, All-nil, All-weaker, All-map}
 use Rattle.std.proofs.lemmas.Simd.{map-map}
-use mathlib.Core.List.{IsPrefix}
 use Rattle.pl_tech.specs.Technology.{Meaning}
 use Rattle.pl_ports.specs.declared.gate.Actor.{Actor}
 use Rattle.pl_ports.specs.declared.gate.Actor.TheVariants.{Session}
@@ -16,12 +15,12 @@ use Rattle.pl_turn.specs.declared.turned.Turned.{Ghosts}
 use Rattle.pl_turn.specs.declared.lock.TurnLock.{TurnLock}
 use Rattle.pl_turn.specs.declared.lock.Pass.{Pass}
 use Rattle.pl_turn.specs.History.{made_by}
-use Rattle.pl_turn.specs.Passes.{number, own, seen}
+use Rattle.pl_turn.specs.Passes.{number, seen}
 use Rattle.pl_turn.proofs.Histories.{has_made}
 use Rattle.pl_session.specs.Complete.{runs_of, TakesPart}
-use Rattle.pl_order.specs.Order.{number_in, entries_of}
+use Rattle.pl_order.specs.Order.{number_in}
 use Rattle.pl_order.specs.Ended.{Ended, HasEnded, IsMadeBy, commands_for}
-use Rattle.pl_runs.specs.Places.{Place, IsPlaced, IsFresh, IsIdle, place_of, place_of_some}
+use Rattle.pl_runs.specs.Places.{Place, IsPlaced, IsIdle, place_of, place_of_some}
 use Rattle.pl_runs.specs.Seats.{AreSeated, HasFirst}
 use Rattle.pl_runs.specs.Went.{HasEndedWith}
 use Rattle.pl_runs.proofs.Lists.{all_holds, all_from_map, all_left, all_right, any_from_map, any_wider, pairs_from_map, pairs_to_map, any_to_map, get_or_itself}

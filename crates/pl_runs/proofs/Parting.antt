@@ -1,5 +1,5 @@
 -- The first pass: it is that of session 1, or nobody's.
-use Rattle.std.proofs.Common.{◌≡◌, ℕ, ◌≤◌, List, [], ◌∷◌, ◌++◌, map, get_or, remove, refl, ap, sym, subst, ◌∙◌, arith, Option, Some, None}
+use Rattle.std.proofs.Common.{◌≡◌, ◌≤◌, List, [], ◌∷◌, ◌++◌, map, get_or, remove, refl, ap, sym, subst, ◌∙◌, arith, Option, Some, None}
 use Rattle.std.specs.Prelude.{All}
 use Rattle.std.proofs.lemmas.List.Elements.{All-head, All-tail}
 use Rattle.pl_ports.specs.declared.gate.Actor.{Actor}
@@ -8,7 +8,7 @@ use Rattle.pl_turn.specs.declared.turned.Turned.{Ghosts}
 use Rattle.pl_turn.specs.declared.lock.TurnLock.{TurnLock}
 use Rattle.pl_turn.specs.declared.lock.Pass.{Pass}
 use Rattle.pl_turn.specs.Passes.{IsOf, joined, number, splits}
-use Rattle.pl_runs.specs.Places.{IsOther, Place, place_of, place_of_some}
+use Rattle.pl_runs.specs.Places.{IsOther, place_of, place_of_some}
 use Rattle.pl_runs.specs.Seats.{BeginsWithOne, HasFirst, IsAccount}
 use Rattle.pl_runs.proofs.Lists.{all_from_map}
 

@@ -1,6 +1,6 @@
 -- One number more is seated.
-use Rattle.std.proofs.Common.{◌≡◌, ◌≢◌, ◌⊎◌, ℕ, zero, suc, ◌<◌, ◌≤◌, ◌+◌, List, [], ◌∷◌, ◌++◌, length, map, get_or, refl, ap, sym, subst, ◌∙◌, arith, inl, inr, ⊎_elim, drop, Option, Some, None}
-use Rattle.std.specs.Prelude.{All, AllPairs, Any}
+use Rattle.std.proofs.Common.{◌≡◌, ◌≢◌, ◌⊎◌, ℕ, suc, ◌<◌, ◌≤◌, ◌+◌, List, [], ◌∷◌, ◌++◌, map, get_or, refl, ap, sym, subst, ◌∙◌, arith, inl, inr, ⊎_elim, drop, Option, Some, None}
+use Rattle.std.specs.Prelude.{All, Any}
 use Rattle.std.proofs.lemmas.Bool.{cases_lt}
 use Rattle.std.proofs.lemmas.List.{get_or-drop, map-append}
 use Rattle.std.proofs.lemmas.List.Elements.{All-cons, All-push, All-weaker, All-nil}
@@ -14,7 +14,7 @@ use Rattle.pl_machine.specs.declared.entry.Command.{Command}
 use Rattle.pl_machine.specs.Tickets.{number_of}
 use Rattle.pl_session.specs.Complete.{TakesPart}
 use Rattle.pl_order.specs.Ended.{commands_for}
-use Rattle.pl_runs.specs.Places.{AreFresh, IsFresh, IsIdle}
+use Rattle.pl_runs.specs.Places.{IsFresh, IsIdle}
 use Rattle.pl_runs.specs.Script.{commands_at}
 use Rattle.pl_runs.specs.Seats.{AreSeated, BeginsWithOne, HasFirst, IsFirstSeated}
 use Rattle.pl_runs.proofs.Lists.{all_from_map, any_left, any_push, drop_one}

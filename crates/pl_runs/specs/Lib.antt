@@ -2,3 +2,4 @@ pub mod Script
 pub mod Went
 pub mod Places
 pub mod Seats
+pub mod Rows

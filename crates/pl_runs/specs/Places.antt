@@ -6,7 +6,7 @@ use Rattle.pl_turn.specs.declared.lock.TurnLock.{TurnLock}
 use Rattle.pl_turn.specs.declared.lock.Pass.{Pass}
 use Rattle.pl_turn.specs.declared.view.Joined.{Joined}
 use Rattle.pl_turn.specs.History.{made_by}
-use Rattle.pl_turn.specs.Passes.{IsOf, joined, number, own, seen, splits}
+use Rattle.pl_turn.specs.Passes.{IsOf, joined, number, own, seen}
 
 -- the number of a pass, its own entries, and what it had seen in the end
 pub record Place (X : Type 0) : Type 0 where

@@ -1,10 +1,8 @@
 //! Threads for all crews, and what they give back.
 ghost use Rattle.std.specs.Thread.{IsSync};
-ghost use Rattle.std.specs.Prelude.{◌≡◌, ◌≤◌, ◌-◌, ◌^◌, [], All, IfOk, MatchOption, length, map, min, sum, vec_capacity};
+ghost use Rattle.std.specs.Prelude.{◌≡◌, ◌≤◌, ◌-◌, ◌^◌, [], All, IfOk, length, map, min, sum, vec_capacity};
 ghost use Rattle.std.specs.List.{AllZip};
-ghost use Rattle.pl_epochs.specs.Words.{table_of};
-ghost use Rattle.pl_runner.specs.Closing.{epochs_of};
-ghost use Rattle.pl_runs.specs.Went.{HasComeBack, MayStart};
+ghost use Rattle.pl_runs.specs.Rows.{IsAccountOf, MayGo};
 
 use crate::{Account, Crew, Sent};
 use pl_ports::Gate;
@@ -38,8 +36,8 @@ pub(crate) fn run_all<'a, T: Sent, R: Threads + Wait + Sync, G: Gate + Sync>(
     crews: Vec<Crew<'a, T, G>>,
 ) -> Result<Vec<Account<T>>, NoMemory>
     requires shared { IsSync R.row }
-    requires may { All (λ c. (epochs_of c.lock.now ≡ table_of c.epochs.now) × MatchOption c.runner ⊥ (λ r. (r.actor ≡ c.actor) × MayStart T.meaning T.job_value T.runs c.lock.now (table_of c.epochs.now) r)) crews.items }
-    ensures { IfOk result (λ all. AllZip (λ c a. MatchOption c.runner ⊥ (λ r. HasComeBack T.meaning c.lock.now r a.actor a.pass a.runs)) crews.entry.items all.items) }
+    requires may { All (MayGo T.meaning T.job_value T.runs) crews.items }
+    ensures { IfOk result (λ all. AllZip (IsAccountOf T.meaning) crews.entry.items all.items) }
 {
     let room = Vec::with_capacity(alloc, crews.len())?;
     let results = work_all(rt, alloc, crews)?;

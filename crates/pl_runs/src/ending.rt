@@ -1,14 +1,11 @@
 //! The end of a run: all passes joined, the lock closed, and the history that is complete.
-ghost use Rattle.std.specs.Prelude.{◌≡◌, ℕ, ◌≤◌, ◌++◌, ◌∷◌, [], List, All, Any, map};
-ghost use Rattle.pl_machine.specs.declared.entry.Command.{Command};
-ghost use Rattle.pl_machine.specs.Tickets.{number_of};
-ghost use Rattle.pl_order.specs.Ended.{commands_for};
+ghost use Rattle.std.specs.Prelude.{◌≡◌, ◌++◌, ◌∷◌, [], All, Any, map};
 ghost use Rattle.pl_order.specs.Order.{number_in};
 ghost use Rattle.pl_session.specs.Complete.{IsComplete, runs_of};
 ghost use Rattle.pl_turn.specs.Passes.{IsOf, joined, number, splits};
 ghost use Rattle.pl_runs.specs.Places.{IsIdle, IsOther, IsPlaced, place_of, place_of_some};
-ghost use Rattle.pl_runs.specs.Seats.{AreSeated, HasAll, HasFirst, IsAccount};
-ghost use Rattle.pl_runs.specs.Went.{HasEndedWith};
+ghost use Rattle.pl_runs.specs.Seats.{HasAll, HasFirst, IsAccount};
+ghost use Rattle.pl_runs.specs.Rows.{WhereAllEnded, places_in};
 
 use crate::Account;
 use crate::collecting::total;
@@ -54,8 +51,8 @@ fn close_all<T: Technology>(
     requires accounts { All (λ a. IsAccount lock a.actor a.pass) accounts.items }
     requires idle { All (λ p. IsIdle lock p) idle.items }
     requires all { HasAll (map (λ a. a.actor) accounts.items) (map (λ p. number p) idle.items) }
-    ensures placed { All (IsPlaced number_in result.journal) ((place_of_some first ++ map (λ a. place_of a.pass) accounts.items) ++ map (λ p. place_of p) idle.items) }
-    ensures makers { All (λ e. Any (λ p. p.number ≡ number_in e) ((place_of_some first ++ map (λ a. place_of a.pass) accounts.items) ++ map (λ p. place_of p) idle.items)) result.journal }
+    ensures placed { All (IsPlaced number_in result.journal) (places_in first accounts.items idle.items) }
+    ensures makers { All (λ e. Any (λ p. p.number ≡ number_in e) (places_in first accounts.items idle.items)) result.journal }
 {
     let (first, others) = part(&lock, first, accounts);
     let first = join_accounts(&lock, first, others);
@@ -75,8 +72,8 @@ pub(crate) fn ended<T: Technology>(
     requires accounts { All (λ a. IsAccount lock a.actor a.pass) accounts.items }
     requires idle { All (λ p. IsIdle lock p) idle.items }
     requires all { HasAll (map (λ a. a.actor) accounts.items) (map (λ p. number p) idle.items) }
-    ensures complete { (commands : ℕ → List (Command T.Edit)) (workers : ℕ) → AreSeated commands workers 25 (map (λ a. a.actor) accounts.items) (map (λ p. number p) idle.items) → All (λ a. HasEndedWith T.meaning lock (commands_for commands a.actor) a.actor a.pass a.runs) accounts.items → IsComplete T.meaning commands workers result.journal.items }
-    ensures runs { (commands : ℕ → List (Command T.Edit)) (workers : ℕ) → AreSeated commands workers 25 (map (λ a. a.actor) accounts.items) (map (λ p. number p) idle.items) → All (λ a. HasEndedWith T.meaning lock (commands_for commands a.actor) a.actor a.pass a.runs) accounts.items → result.runs ≡ runs_of result.journal.items }
+    ensures complete { WhereAllEnded T.meaning lock accounts.items idle.items (λ commands workers. IsComplete T.meaning commands workers result.journal.items) }
+    ensures runs { WhereAllEnded T.meaning lock accounts.items idle.items (λ _ _. result.runs ≡ runs_of result.journal.items) }
 {
     let runs = total(&accounts);
     let journal = close_all(lock, first, accounts, idle).into_journal();

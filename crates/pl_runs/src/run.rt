@@ -10,7 +10,7 @@ ghost use Rattle.pl_turn.specs.Passes.{number, splits};
 ghost use Rattle.pl_runs.specs.Places.{AreFresh, IsFresh, IsIdle};
 ghost use Rattle.pl_runs.specs.Script.{IsCallable, commands_at};
 ghost use Rattle.pl_runs.specs.Seats.{AreSeated, HasFirst, IsAccount};
-ghost use Rattle.pl_runs.specs.Went.{HasEndedWith};
+ghost use Rattle.pl_runs.specs.Rows.{HaveEnded, script_of};
 
 use crate::collecting::run_all;
 use crate::ending::ended;
@@ -50,9 +50,9 @@ fn run_at<T: Sent, R: Threads + Wait + Sync, G: Gate + Sync>(
     requires reader { reads_at reader ≡ table_of desk.now.epochs.now }
     ensures first { IfOk result (λ r. HasFirst desk.now.lock.now r.0 (map (λ a. a.actor) r.1.items)) }
     ensures accounts { IfOk result (λ r. All (λ a. IsAccount desk.now.lock.now a.actor a.pass) r.1.items) }
-    ensures ended { IfOk result (λ r. All (λ a. HasEndedWith T.meaning desk.now.lock.now (commands_for (commands_at (map (λ s. map arc_value s.items) sessions.items)) a.actor) a.actor a.pass a.runs) r.1.items) }
+    ensures ended { IfOk result (λ r. HaveEnded T.meaning desk.now.lock.now (commands_for (script_of sessions.items)) r.1.items) }
     ensures idle { IfOk result (λ r. All (λ p. IsIdle desk.now.lock.now p) r.2.items) }
-    ensures seated { IfOk result (λ r. AreSeated (commands_at (map (λ s. map arc_value s.items) sessions.items)) desk.now.workers 25 (map (λ a. a.actor) r.1.items) (map (λ p. number p) r.2.items)) }
+    ensures seated { IfOk result (λ r. AreSeated (script_of sessions.items) desk.now.workers 25 (map (λ a. a.actor) r.1.items) (map (λ p. number p) r.2.items)) }
 {
     let seats = seat_all(desk, sessions, first, rest, reader)?;
     let (crews, first, idle) = seats;

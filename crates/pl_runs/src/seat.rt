@@ -1,5 +1,5 @@
 //! Who has a number: a session with a command, a worker, or nobody.
-ghost use Rattle.std.specs.Prelude.{◌≡◌, ◌≤◌, ◌<◌, ◌+◌, [], IfOk, IfErr, map};
+ghost use Rattle.std.specs.Prelude.{◌≡◌, ◌≤◌, ◌+◌, [], IfOk, IfErr, map};
 ghost use Rattle.std.specs.Arc.{arc_value};
 ghost use Rattle.pl_epochs.specs.Words.{reads_at, table_of};
 ghost use Rattle.pl_machine.specs.Tickets.{number_of};
@@ -8,7 +8,8 @@ ghost use Rattle.pl_session.specs.Complete.{TakesPart};
 ghost use Rattle.pl_turn.specs.Passes.{splits};
 ghost use Rattle.pl_runs.specs.Places.{IsFresh};
 ghost use Rattle.pl_runs.specs.Script.{IsCallable};
-ghost use Rattle.pl_runs.specs.Seats.{IsSeated, MaySit};
+ghost use Rattle.pl_runs.specs.Seats.{MaySit};
+ghost use Rattle.pl_runs.specs.Rows.{HasNobody, IsCrewOf};
 
 use crate::{Crew, Desk};
 use pl_epochs::ReaderSeat;
@@ -35,7 +36,7 @@ fn of_session<'a, T: Technology, G>(
     requires callable { IsCallable (map arc_value commands.items) }
     ensures lock { (result.lock.now ≡ desk.now.lock.now) × (result.epochs.now ≡ desk.now.epochs.now) }
     ensures actor { result.actor ≡ Actor.Session id }
-    ensures runner { IsSeated T.meaning T.job_value T.runs desk.now.lock.now (table_of desk.now.epochs.now) (map arc_value commands.items) result.actor result.runner }
+    ensures runner { IsCrewOf T.meaning T.job_value T.runs desk.now (λ _. map arc_value commands.items) result }
 {
     let runner = Runner::<T>::session(id, commands, pass, reader, T::bench());
     Crew {
@@ -61,7 +62,7 @@ fn of_worker<'a, T: Technology, G>(
     requires reader { reads_at reader ≡ table_of desk.now.epochs.now }
     ensures lock { (result.lock.now ≡ desk.now.lock.now) × (result.epochs.now ≡ desk.now.epochs.now) }
     ensures actor { result.actor ≡ Actor.Worker id }
-    ensures runner { IsSeated T.meaning T.job_value T.runs desk.now.lock.now (table_of desk.now.epochs.now) [] result.actor result.runner }
+    ensures runner { IsCrewOf T.meaning T.job_value T.runs desk.now (λ _. []) result }
 {
     let runner = Runner::<T>::worker(desk.alloc, id, pass, reader, T::bench());
     Crew {
@@ -92,8 +93,8 @@ fn crew_of<'a, T: Technology, G>(
     ensures lock { IfOk result (λ c. (c.lock.now ≡ desk.now.lock.now) × (c.epochs.now ≡ desk.now.epochs.now)) }
     ensures actor { IfOk result (λ c. number_of c.actor ≡ number) }
     ensures part { IfOk result (λ c. TakesPart (λ _. map arc_value commands.items) desk.now.workers c.actor) }
-    ensures runner { IfOk result (λ c. IsSeated T.meaning T.job_value T.runs desk.now.lock.now (table_of desk.now.epochs.now) (commands_for (λ _. map arc_value commands.items) c.actor) c.actor c.runner) }
-    ensures idle { IfErr result (λ p. (p ≡ pass) × (number ≤ 16 → map arc_value commands.items ≡ []) × (16 < number → 16 + desk.now.workers < number)) }
+    ensures runner { IfOk result (IsCrewOf T.meaning T.job_value T.runs desk.now (commands_for (λ _. map arc_value commands.items))) }
+    ensures idle { IfErr result (λ p. (p ≡ pass) × HasNobody (map arc_value commands.items) desk.now.workers number) }
 {
     if number <= 16 {
         if commands.is_empty() {
@@ -121,8 +122,8 @@ pub(crate) fn seat<'a, T: Technology, G>(
     ensures lock { IfOk result (λ c. (c.lock.now ≡ desk.now.lock.now) × (c.epochs.now ≡ desk.now.epochs.now)) }
     ensures actor { IfOk result (λ c. number_of c.actor ≡ number) }
     ensures part { IfOk result (λ c. TakesPart (λ _. map arc_value commands.items) desk.now.workers c.actor) }
-    ensures runner { IfOk result (λ c. IsSeated T.meaning T.job_value T.runs desk.now.lock.now (table_of desk.now.epochs.now) (commands_for (λ _. map arc_value commands.items) c.actor) c.actor c.runner) }
-    ensures idle { IfErr result (λ p. (p ≡ pass) × (number ≤ 16 → map arc_value commands.items ≡ []) × (16 < number → 16 + desk.now.workers < number)) }
+    ensures runner { IfOk result (IsCrewOf T.meaning T.job_value T.runs desk.now (commands_for (λ _. map arc_value commands.items))) }
+    ensures idle { IfErr result (λ p. (p ≡ pass) × HasNobody (map arc_value commands.items) desk.now.workers number) }
 {
     crew_of(desk, number, commands, pass, reader)
 }

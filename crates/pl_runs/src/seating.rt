@@ -1,13 +1,14 @@
 //! A seat for each number: crews for those who take part, and idle passes.
-ghost use Rattle.std.specs.Prelude.{◌≡◌, ◌≤◌, ◌-◌, ◌+◌, [], All, IfOk, MatchOption, drop, length, map, vec_capacity};
+ghost use Rattle.std.specs.Prelude.{◌≡◌, ◌≤◌, [], All, IfOk, drop, length, map, vec_capacity};
 ghost use Rattle.std.specs.Arc.{arc_value};
 ghost use Rattle.std.specs.Vec.Iter.{into_iter_items};
 ghost use Rattle.pl_epochs.specs.Words.{reads_at, table_of};
 ghost use Rattle.pl_order.specs.Ended.{commands_for};
-ghost use Rattle.pl_turn.specs.Passes.{number, own, splits};
+ghost use Rattle.pl_turn.specs.Passes.{number, splits};
 ghost use Rattle.pl_runs.specs.Places.{AreFresh, IsFresh, IsIdle};
 ghost use Rattle.pl_runs.specs.Script.{IsCallable, commands_at};
-ghost use Rattle.pl_runs.specs.Seats.{AreSeated, HasFirst, HasSeat, IsFirstSeated, MayBegin};
+ghost use Rattle.pl_runs.specs.Seats.{AreSeated, HasFirst, IsFirstSeated, MayBegin};
+ghost use Rattle.pl_runs.specs.Rows.{AreCrewsOf, commands_in, script_of};
 
 use crate::seat::seat;
 use crate::{Crew, Desk};
@@ -65,7 +66,7 @@ fn seat_first<'a, T: Technology, G>(
     requires callable { IsCallable (map arc_value commands.items) }
     requires empty { crews.items ≡ [] }
     requires room { 24 ≤ vec_capacity crews }
-    ensures crews { All (λ c. HasSeat T.meaning T.job_value T.runs desk.now.lock.now (table_of desk.now.epochs.now) (map arc_value commands.items) c.lock.now (table_of c.epochs.now) c.actor c.runner) result.0.items }
+    ensures crews { AreCrewsOf T.meaning T.job_value T.runs desk.now (λ _. map arc_value commands.items) result.0.items }
     ensures first { HasFirst desk.now.lock.now result.1 (map (λ c. c.actor) result.0.items) }
     ensures alone { IsFirstSeated result.1 (map (λ c. c.actor) result.0.items) (map arc_value commands.items) }
     ensures long { length result.0.items ≤ 1 }
@@ -94,13 +95,13 @@ fn seat_each<'a, T: Technology, G>(
     Option<Pass<Plant<T>>>,
     Vec<Pass<Plant<T>>>,
 )
-    requires begins { MayBegin desk.now.lock.now (table_of desk.now.epochs.now) desk.now.workers (map (λ c. map arc_value c.items) sessions.items) first rest.items (reads_at reader) }
+    requires begins { MayBegin desk.now.lock.now (table_of desk.now.epochs.now) desk.now.workers (commands_in sessions.items) first rest.items (reads_at reader) }
     requires empty { (crews.items ≡ []) × (idle.items ≡ []) }
     requires room { (24 ≤ vec_capacity crews) × (24 ≤ vec_capacity idle) }
-    ensures crews { All (λ c. HasSeat T.meaning T.job_value T.runs desk.now.lock.now (table_of desk.now.epochs.now) (commands_for (commands_at (map (λ s. map arc_value s.items) sessions.items)) c.actor) c.lock.now (table_of c.epochs.now) c.actor c.runner) result.0.items }
+    ensures crews { AreCrewsOf T.meaning T.job_value T.runs desk.now (commands_for (script_of sessions.items)) result.0.items }
     ensures first { HasFirst desk.now.lock.now result.1 (map (λ c. c.actor) result.0.items) }
     ensures idle { All (λ p. IsIdle desk.now.lock.now p) result.2.items }
-    ensures seated { AreSeated (commands_at (map (λ s. map arc_value s.items) sessions.items)) desk.now.workers 25 (map (λ c. c.actor) result.0.items) (map (λ p. number p) result.2.items) }
+    ensures seated { AreSeated (script_of sessions.items) desk.now.workers 25 (map (λ c. c.actor) result.0.items) (map (λ p. number p) result.2.items) }
 {
     let mut sessions = sessions.into_iter();
     let opening = next_commands(desk.alloc, &mut sessions);
@@ -144,10 +145,10 @@ pub(crate) fn seat_all<'a, T: Technology, G>(
     requires rest { AreFresh desk.now.lock.now 2 rest.items }
     requires long { length rest.items ≡ 23 }
     requires reader { reads_at reader ≡ table_of desk.now.epochs.now }
-    ensures crews { IfOk result (λ r. All (λ c. HasSeat T.meaning T.job_value T.runs desk.now.lock.now (table_of desk.now.epochs.now) (commands_for (commands_at (map (λ s. map arc_value s.items) sessions.items)) c.actor) c.lock.now (table_of c.epochs.now) c.actor c.runner) r.0.items) }
+    ensures crews { IfOk result (λ r. AreCrewsOf T.meaning T.job_value T.runs desk.now (commands_for (script_of sessions.items)) r.0.items) }
     ensures first { IfOk result (λ r. HasFirst desk.now.lock.now r.1 (map (λ c. c.actor) r.0.items)) }
     ensures idle { IfOk result (λ r. All (λ p. IsIdle desk.now.lock.now p) r.2.items) }
-    ensures seated { IfOk result (λ r. AreSeated (commands_at (map (λ s. map arc_value s.items) sessions.items)) desk.now.workers 25 (map (λ c. c.actor) r.0.items) (map (λ p. number p) r.2.items)) }
+    ensures seated { IfOk result (λ r. AreSeated (script_of sessions.items) desk.now.workers 25 (map (λ c. c.actor) r.0.items) (map (λ p. number p) r.2.items)) }
 {
     let crews = Vec::with_capacity(desk.alloc, 24)?;
     let idle = Vec::with_capacity(desk.alloc, 24)?;

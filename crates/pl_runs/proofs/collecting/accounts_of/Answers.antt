@@ -1,4 +1,4 @@
-use Rattle.std.proofs.Common.{◌≡◌, ◌++◌, ◌+◌, length, map, arith, refl, ap, sym, subst, ◌∙◌, Ok}
+use Rattle.std.proofs.Common.{◌≡◌, length, arith, sym, ◌∙◌, Ok}
 use Rattle.std.proofs.lemmas.Grind.{common_steps}
 use Rattle.std.specs.Vec.Iter.{into_iter_items}
 use Rattle.pl_runs.proofs.Lists.{room_for_one, room_left, taken_all, taken_more}

@@ -1,4 +1,4 @@
-use Rattle.std.proofs.Common.{◌≡◌, map, length, subst, arith, Ok}
+use Rattle.std.proofs.Common.{subst, arith, Ok}
 use Rattle.std.specs.List.{AllZip}
 use Rattle.std.proofs.lemmas.Slice.Zip.{AllZip-long}
 use Rattle.pl_runs.proofs.Lists.{zip_from_map}

@@ -1,4 +1,4 @@
-use Rattle.std.proofs.Common.{refl, rules}
+use Rattle.std.proofs.Common.{rules}
 use Rattle.pl_epochs.specs.Words.{table_of}
 use Rattle.pl_runs.proofs.Coming.{come_back}
 use Rattle.pl_runs.proofs.crew.go.Goals as goal

@@ -1,8 +1,8 @@
-use Rattle.std.proofs.Common.{◌≡◌, ◌∷◌, ◌++◌, map, refl, ap, sym, subst, ◌∙◌, arith}
+use Rattle.std.proofs.Common.{◌++◌, map, ap, subst, ◌∙◌, arith}
 use Rattle.std.specs.Prelude.{All}
 use Rattle.std.proofs.lemmas.List.Elements.{All-cons, All-weaker}
 use Rattle.pl_order.specs.Order.{number_in}
-use Rattle.pl_turn.specs.Passes.{joined, number}
+use Rattle.pl_turn.specs.Passes.{joined}
 use Rattle.pl_runs.specs.Places.{IsIdle, IsOther, IsPlaced, place_in, place_of}
 use Rattle.pl_runs.proofs.Closing.{first_placed, joined_has, joined_placed, makers_are, places_have}
 use Rattle.pl_runs.proofs.Lists.{prefix_trans}

@@ -1,4 +1,4 @@
-use Rattle.std.proofs.Common.{◌≡◌, ◌≤◌, ◌<◌, ◌^◌, map, length, min, sum, sym, ◌∙◌, arith}
+use Rattle.std.proofs.Common.{map, length, sum, sym, ◌∙◌}
 use Rattle.std.proofs.lemmas.List.Sums.{count_by-le-length}
 use Rattle.pl_session.specs.Complete.{is_start, runs_of}
 use Rattle.pl_runs.proofs.Made.{ended_of, is_made_of, runs_of_all}

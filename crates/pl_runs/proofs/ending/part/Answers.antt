@@ -1,4 +1,4 @@
-use Rattle.std.proofs.Common.{◌≡◌, ap, arith, length, ◌∷◌}
+use Rattle.std.proofs.Common.{ap, arith, length}
 use Rattle.pl_runs.proofs.Parting.{parted_none, parted_some, some_account}
 use Rattle.pl_runs.proofs.ending.part.Goals as goal
 

@@ -1,4 +1,4 @@
-use Rattle.std.proofs.Common.{◌≡◌, [], map, length, refl, sym, subst, ◌∙◌, arith}
+use Rattle.std.proofs.Common.{refl, sym, subst, ◌∙◌, arith}
 use Rattle.std.specs.Arc.{arc_value}
 use Rattle.std.proofs.lemmas.List.{length-map}
 use Rattle.pl_epochs.specs.Words.{table_of}

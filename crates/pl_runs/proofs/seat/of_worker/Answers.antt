@@ -1,4 +1,4 @@
-use Rattle.std.proofs.Common.{◌≡◌, [], refl, sym, subst, ◌∙◌, arith}
+use Rattle.std.proofs.Common.{refl, sym, subst, arith}
 use Rattle.pl_epochs.specs.Words.{table_of}
 use Rattle.pl_machine.specs.History.{IsLegal}
 use Rattle.pl_runner.specs.Causes.{HasNoneAsWorker}

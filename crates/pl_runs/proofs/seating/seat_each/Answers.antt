@@ -1,11 +1,10 @@
-use Rattle.std.proofs.Common.{◌≡◌, ◌+◌, ◌≤◌, ◌++◌, ◌∷◌, [], drop, get_or, length, map, ap, sym, subst, ◌∙◌, arith, refl, suc}
+use Rattle.std.proofs.Common.{◌≡◌, ◌+◌, drop, get_or, length, map, ap, sym, subst, ◌∙◌, arith}
 use Rattle.std.specs.Prelude.{All}
 use Rattle.std.specs.Arc.{arc_value}
 use Rattle.std.specs.Vec.Iter.{into_iter_items}
 use Rattle.std.proofs.lemmas.Grind.{common_steps}
-use Rattle.std.proofs.lemmas.List.Elements.{All-drop, All-push, All-weaker}
+use Rattle.std.proofs.lemmas.List.Elements.{All-drop}
 use Rattle.pl_epochs.specs.Words.{table_of}
-use Rattle.pl_machine.specs.Tickets.{number_of}
 use Rattle.pl_order.specs.Ended.{commands_for}
 use Rattle.pl_turn.specs.Passes.{number}
 use Rattle.pl_runs.specs.Places.{AreFresh, IsIdle}
@@ -143,7 +142,7 @@ loop-pass-preserved g c = let t = g.T.Technology in
       one = was.one;
       unused = pushed_all c.loop-pass.idle.items _ pass (λ p. IsIdle c.args.desk.now.lock.now p) pushed.items was.unused (subst (λ p. IsIdle c.args.desk.now.lock.now p) (sym s.idle.0) (idle_is c.args.desk.now.lock.now (c.loop-pass.number + 1) _ fresh.0 (omega (arith, high))));
       seated = subst (λ ns. AreSeated script c.args.desk.now.workers ((c.loop-pass.number + 1) + 1) (map (λ c. c.actor) c.loop-pass.crews.items) ns) (sym numbers)
-          (seated_idle script c.args.desk.now.workers (c.loop-pass.number + 1) _ _ (number pass) was.seated mine (λ small. own ∙ s.idle.1 small));
+          (seated_idle script c.args.desk.now.workers (c.loop-pass.number + 1) _ _ (number pass) was.seated mine (λ small. own ∙ s.idle.1.0 small));
       room = room_stays _ _ c.in-Some.pass _ _ it was.room;
       idle_room = room_left _ _ c.in-Some.pass _ _ _ _ it pushed.len pushed.capacity was.idle_room;
     }

@@ -1,8 +1,6 @@
-use Rattle.std.proofs.Common.{◌≡◌, ◌+◌, ◌∷◌, ◌++◌, [], ◌≤◌, map, length, ap, sym, subst, ◌∙◌, arith, refl}
-use Rattle.std.specs.Prelude.{All}
+use Rattle.std.proofs.Common.{◌≡◌, ◌∷◌, ◌++◌, [], ◌≤◌, map, length, ap, sym, subst, ◌∙◌, arith, refl}
 use Rattle.std.specs.Arc.{arc_value}
-use Rattle.std.proofs.lemmas.List.Elements.{All-cons, All-nil}
-use Rattle.pl_ports.specs.declared.gate.Actor.TheVariants.{Session}
+use Rattle.std.proofs.lemmas.List.Elements.{All-nil}
 use Rattle.pl_epochs.specs.Words.{table_of}
 use Rattle.pl_machine.specs.Tickets.{number_of}
 use Rattle.pl_order.specs.Ended.{commands_for}
@@ -41,7 +39,7 @@ returns-in-Err g c = let t = g.T.Technology in
     let long = ap length none in record {
       crews = none_all c.args.crews.items (λ x. HasSeat t.meaning t.job_value t.runs c.args.desk.now.lock.now (table_of c.args.desk.now.epochs.now) (map arc_value c.args.commands.items) x.lock.now (table_of x.epochs.now) x.actor x.runner) none;
       first = (subst (λ p. IsFresh c.args.desk.now.lock.now 1 p) (sym s.idle.0) c.requires.first, subst (λ p. splits p ≡ 23) (sym s.idle.0) c.requires.splits, none_all _ (λ b. 2 ≤ number_of b) actors);
-      alone = (actors, s.idle.1 (omega arith));
+      alone = (actors, s.idle.1.0 (omega arith));
       long = omega (arith, long);
       room = c.requires.room;
     }

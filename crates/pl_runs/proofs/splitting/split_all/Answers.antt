@@ -1,6 +1,5 @@
-use Rattle.std.proofs.Common.{◌≡◌, ◌+◌, [], ◌∷◌, length, arith, refl, ap, sym, subst, ◌∙◌}
+use Rattle.std.proofs.Common.{[], ◌∷◌, length, arith, ap, sym, subst, ◌∙◌}
 use Rattle.std.proofs.lemmas.List.{length-append}
-use Rattle.pl_turn.specs.Passes.{splits}
 use Rattle.pl_runs.specs.Places.{AreFresh}
 use Rattle.pl_runs.proofs.Joins.{fresh_push}
 use Rattle.pl_runs.proofs.splitting.split_all.Goals as goal
