@@ -1,5 +1,5 @@
 -- Turning over the cells from which a facet is hit: row by row, and facet by facet.
-use Rattle.std.proofs.Common.{◌≡◌, ℤ, ℕ, pos, zero, suc, ◌+ℤ◌, ◌*ℤ◌, ◌+◌, ◌*◌, ◌<◌, ◌≤◌, ◌%◌, ◌==◌, Bool, true, false, cond, not, ◌&&◌, ◌||◌, List, take, length, get_or, refl, sym, ◌∙◌, ap, subst, arith, min, w32, to_z}
+use Rattle.std.proofs.Common.{◌≡◌, ℤ, ℕ, pos, ◌+ℤ◌, ◌*ℤ◌, ◌+◌, ◌*◌, ◌<◌, ◌≤◌, ◌%◌, ◌==◌, Bool, true, false, cond, not, ◌&&◌, ◌||◌, List, take, length, get_or, refl, sym, ◌∙◌, ap, subst, arith, min, w32, to_z}
 use Rattle.std.specs.Prelude.{nat_lt, int_lt, ◌-ℤ◌, IsTrue, is_some}
 use Rattle.std.specs.Ordering.{int_eq}
 use Rattle.std.specs.List.{count_by}
@@ -54,10 +54,10 @@ same_in_row corner f i cols x v y false same ex h = refl
 pub flipped_row : (p : Cells) (corner : Point3) (f : Facet) (y : ℤ) (n : ℕ) → p.bounds.x0 ≡ pos 0 → n ≡ min p.bounds.cols (columns_hit 400000 (cell_point corner (pos 0) y) f) → toggled p (pos n) y ≡ with_facet_row corner f p y
 flipped_row p corner f y n origin en =
     same_tests p.bounds (λ u v. cond (int_lt u (pos n) && int_eq v y) (not (filled p u v)) (filled p u v)) (λ u v. either_or (filled p u v) (int_eq v y && hits (cell_point corner u v) f)) (λ i j hi hj.
-        let ex : p.bounds.x0 +ℤ pos i ≡ pos i = omega (arith, ints, origin) in
-        flip (int_lt (p.bounds.x0 +ℤ pos i) (pos n)) (int_eq (p.bounds.y0 +ℤ pos j) y) (filled p (p.bounds.x0 +ℤ pos i) (p.bounds.y0 +ℤ pos j))
-        ∙ ap (λ b. either_or (filled p (p.bounds.x0 +ℤ pos i) (p.bounds.y0 +ℤ pos j)) (int_eq (p.bounds.y0 +ℤ pos j) y && b)) (lt_from p.bounds.x0 i n origin ∙ ap (nat_lt i) en)
-        ∙ ap (λ b. either_or (filled p (p.bounds.x0 +ℤ pos i) (p.bounds.y0 +ℤ pos j)) b) (same_in_row corner f i p.bounds.cols (p.bounds.x0 +ℤ pos i) (p.bounds.y0 +ℤ pos j) y (int_eq (p.bounds.y0 +ℤ pos j) y) (Decides-int_eq (p.bounds.y0 +ℤ pos j) y).0 ex hi))
+    let ex : p.bounds.x0 +ℤ pos i ≡ pos i = omega (arith, ints, origin) in
+    flip (int_lt (p.bounds.x0 +ℤ pos i) (pos n)) (int_eq (p.bounds.y0 +ℤ pos j) y) (filled p (p.bounds.x0 +ℤ pos i) (p.bounds.y0 +ℤ pos j))
+    ∙ ap (λ b. either_or (filled p (p.bounds.x0 +ℤ pos i) (p.bounds.y0 +ℤ pos j)) (int_eq (p.bounds.y0 +ℤ pos j) y && b)) (lt_from p.bounds.x0 i n origin ∙ ap (nat_lt i) en)
+    ∙ ap (λ b. either_or (filled p (p.bounds.x0 +ℤ pos i) (p.bounds.y0 +ℤ pos j)) b) (same_in_row corner f i p.bounds.cols (p.bounds.x0 +ℤ pos i) (p.bounds.y0 +ℤ pos j) y (int_eq (p.bounds.y0 +ℤ pos j) y) (Decides-int_eq (p.bounds.y0 +ℤ pos j) y).0 ex hi))
 
 -- a row or a count of columns as the code has it
 pub signed : (k : ℕ) → k ≤ 8192 → to_z w32 k ≡ pos k
@@ -130,7 +130,7 @@ rows_more : (corner : Point3) (f : Facet) (p : Cells) (k : ℕ) → p.bounds.y0 
 rows_more corner f p k origin = same_tests p.bounds (λ u v. either_or (filled (rows_done corner f p k) u v) (int_eq v (pos k) && hits (cell_point corner u v) f)) (λ u v. either_or (filled p u v) (int_lt v (pos (k + 1)) && hits (cell_point corner u v) f)) (λ i j hi hj.
     let ev : p.bounds.y0 +ℤ pos j ≡ pos j = omega (arith, ints, origin) in
     row_at (filled p (p.bounds.x0 +ℤ pos i) (p.bounds.y0 +ℤ pos j)) (hits (cell_point corner (p.bounds.x0 +ℤ pos i) (p.bounds.y0 +ℤ pos j)) f) (filled (rows_done corner f p k) (p.bounds.x0 +ℤ pos i) (p.bounds.y0 +ℤ pos j)) (p.bounds.y0 +ℤ pos j) j k ev
-        (filled_in p.bounds (λ x y. either_or (filled p x y) (int_lt y (pos k) && hits (cell_point corner x y) f)) i j hi hj))
+    (filled_in p.bounds (λ x y. either_or (filled p x y) (int_lt y (pos k) && hits (cell_point corner x y) f)) i j hi hj))
 
 -- a facet that misses a row is hit from no cell of it
 hits_missed : (corner : Point3) (f : Facet) (u v : ℤ) (j : ℕ) → v ≡ pos j → misses_row (cell_point corner (pos 0) (pos j)) f ≡ true → hits (cell_point corner u v) f ≡ false
@@ -154,7 +154,7 @@ pub rows_none : (corner : Point3) (f : Facet) (p : Cells) (k : ℕ) → IsFull p
 rows_none corner f p k full origin missed = is_plane_of p (λ u v. either_or (filled p u v) (int_lt v (pos k) && hits (cell_point corner u v) f)) full (λ i j hi hj.
     let ev : p.bounds.y0 +ℤ pos j ≡ pos j = omega (arith, ints, origin) in
     sym (either_none (filled p (p.bounds.x0 +ℤ pos i) (p.bounds.y0 +ℤ pos j)) _ (and_none (int_lt (p.bounds.y0 +ℤ pos j) (pos k)) _ (λ below. hits_missed corner f (p.bounds.x0 +ℤ pos i) (p.bounds.y0 +ℤ pos j) j ev (missed j hj (is_below (p.bounds.y0 +ℤ pos j) j k ev below))))
-        ∙ filled_at p (p.bounds.x0 +ℤ pos i) (p.bounds.y0 +ℤ pos j) i j hi hj refl refl))
+    ∙ filled_at p (p.bounds.x0 +ℤ pos i) (p.bounds.y0 +ℤ pos j) i j hi hj refl refl))
 
 and_all : (a h : Bool) → (a ≡ false → h ≡ false) → (a && h) ≡ h
 and_all true h e = refl

@@ -1,4 +1,4 @@
-use Rattle.std.proofs.Common.{◌≡◌, ◌<◌, ◌≤◌, ◌∙◌, ap, sym, arith, pos}
+use Rattle.std.proofs.Common.{◌≡◌, ◌≤◌, ◌∙◌, ap, sym, arith, pos}
 use Rattle.pl_grid.specs.Extent.{Extent}
 use Rattle.pl_layers.proofs.Flipping.{rows_none, rows_step, rows_all, inside_of_box}
 use Rattle.pl_layers.proofs.rows.flip_facet.Goals as goal

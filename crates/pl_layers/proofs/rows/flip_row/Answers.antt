@@ -1,4 +1,4 @@
-use Rattle.std.proofs.Common.{◌≡◌, ◌<◌, ◌≤◌, ◌∙◌, ap, min, arith, ℕ}
+use Rattle.std.proofs.Common.{◌≤◌, ◌∙◌, ap, min, arith}
 use Rattle.pl_grid.specs.Extent.{Extent}
 use Rattle.pl_layers.specs.Rows.{columns_hit}
 use Rattle.pl_layers.proofs.Flipping.{row_there, row_flipped}

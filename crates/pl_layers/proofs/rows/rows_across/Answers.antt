@@ -1,4 +1,3 @@
-use Rattle.std.proofs.Common.{◌≡◌, ◌<◌, ◌≤◌}
 use Rattle.pl_layers.proofs.Across.{least_close, greatest_close, missed_before, missed_after}
 use Rattle.pl_layers.proofs.rows.rows_across.Goals as goal
 

@@ -1,4 +1,4 @@
-use Rattle.std.proofs.Common.{◌≡◌, ◌<◌, ◌∙◌, ap, sym, take, length, arith}
+use Rattle.std.proofs.Common.{◌<◌, ◌∙◌, ap, sym, take, length, arith}
 use Rattle.pl_grid.specs.Extent.{Extent}
 use Rattle.pl_layers.proofs.Flipping.{inside_empty, inside_full, facet_step}
 use Rattle.pl_layers.proofs.slices.slice_facets.Goals as goal
