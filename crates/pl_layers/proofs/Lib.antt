@@ -4,8 +4,8 @@ pub mod Extremes
 pub mod Slopes
 pub mod Behind
 pub mod Reaching
-pub mod Marking
+pub mod Across
 pub mod Spanning
-pub mod Filling
+pub mod Flipping
 pub mod Points
 pub mod Sweeping

@@ -9,4 +9,4 @@ pub mod Slices
 pub mod Filling
 pub mod Sweeps
 pub mod Rows
-pub mod Marks
+pub mod Flips

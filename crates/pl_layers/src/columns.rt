@@ -1,48 +1,14 @@
 //! The cells of a row that a facet is hit from: those before one place.
-ghost use Rattle.std.specs.Prelude.{◌≤◌, ◌*◌, min, unsigned_abs, int_lt, if◌then◌else◌, ◌≡◌, ◌^◌, pos, neg_ℤ, int_le, ◌&&◌, ◌||◌};
+ghost use Rattle.std.specs.Prelude.{◌≤◌, ◌*◌, min, unsigned_abs, int_lt, if◌then◌else◌, ◌≡◌, ◌^◌, pos, neg_ℤ};
 ghost use Rattle.pl_units.specs.Within.{Within};
-ghost use Rattle.pl_layers.specs.Rows.{columns_hit, misses_row, turn, volume_at, steps_below};
+ghost use Rattle.pl_layers.specs.Rows.{columns_hit, turn, volume_at, steps_below};
 ghost use Rattle.pl_layers.specs.Near.{IsClose, IsCloseFacet};
 
 use crate::hits::{arrow, cross_x, crosses_oddly, determinant};
 use pl_stl::{Facet, Point3};
 
-/// Whether some corner of the facet is at the row of the point or below.
-fn reaches_back(p: &Point3, facet: &Facet) -> bool
-    ensures { result ≡ (int_le facet.now.a.y.0 p.now.y.0 || int_le facet.now.b.y.0 p.now.y.0 || int_le facet.now.c.y.0 p.now.y.0) }
-{
-    facet.a.y.0 <= p.y.0 || facet.b.y.0 <= p.y.0 || facet.c.y.0 <= p.y.0
-}
-
-/// Whether each corner of the facet is at the row of the point or below.
-fn stays_back(p: &Point3, facet: &Facet) -> bool
-    ensures { result ≡ (int_le facet.now.a.y.0 p.now.y.0 && int_le facet.now.b.y.0 p.now.y.0 && int_le facet.now.c.y.0 p.now.y.0) }
-{
-    facet.a.y.0 <= p.y.0 && facet.b.y.0 <= p.y.0 && facet.c.y.0 <= p.y.0
-}
-
-/// Whether each corner of the facet is at the row of the point or below, or each is above it: it is then hit from no
-/// point of the row.
-fn misses_row(p: &Point3, facet: &Facet) -> bool
-    ensures { result ≡ misses_row p.now facet.now }
-{
-    stays_back(p, facet) || !reaches_back(p, facet)
-}
-
 /// How many of the points that lie a cell apart along the ray, the first of them `p`, the facet is hit from, at most `most`.
 pub(crate) fn columns_hit(p: &Point3, facet: &Facet, most: usize) -> usize
-    requires p { IsClose p.now }
-    requires facet { IsCloseFacet facet.now }
-    ensures { result ≡ min most (columns_hit 400000 p.now facet.now) }
-{
-    if misses_row(p, facet) {
-        return 0;
-    }
-    columns_crossed(p, facet, most)
-}
-
-/// The same, of a facet that is not passed by.
-fn columns_crossed(p: &Point3, facet: &Facet, most: usize) -> usize
     requires p { IsClose p.now }
     requires facet { IsCloseFacet facet.now }
     ensures { result ≡ min most (columns_hit 400000 p.now facet.now) }

@@ -3,15 +3,14 @@ ghost use Rattle.std.specs.Prelude.{◌≡◌, ◌<◌, ◌^◌, ◌+◌, ◌+�
 ghost use Rattle.std.specs.List.{filter};
 ghost use Rattle.pl_units.specs.Within.{Within};
 ghost use Rattle.pl_stl.specs.Mesh.{IsMesh};
-ghost use Rattle.pl_grid.specs.Planes.{with_cell};
 ghost use Rattle.pl_layers.specs.Turned.{turned_mesh, box_of};
 ghost use Rattle.pl_layers.specs.Heights.{AreHeights, layer_count_of};
 ghost use Rattle.pl_layers.specs.Near.{IsClose, AllClose};
 ghost use Rattle.pl_layers.specs.Slices.{corner_of, cell_point, inside_of, slice_of};
-ghost use Rattle.pl_layers.specs.Filling.{spans, filled_to};
+ghost use Rattle.pl_layers.specs.Filling.{spans};
 
 use crate::heights::{Heights, sample};
-use crate::rows::fold_row;
+use crate::rows::flip_facet;
 use crate::turned::{Part, box_over, span_of, turned_facet};
 use pl_grid::{Box2, Plane};
 use pl_stl::{Facet, Mesh, Point3};
@@ -25,29 +24,6 @@ pub(crate) fn sum(a: &Nm, b: &Nm) -> Nm
     ensures { result.0 ≡ a.now.0 +ℤ b.now.0 }
 {
     Nm(a.0 + b.0)
-}
-
-/// The middle of the cell that lies `count` cells after the one with its middle at `first`.
-fn middle_after(first: &Nm, count: i32) -> Nm
-    requires first { Within (2 ^ 30) first.now.0 }
-    requires count { Within (2 ^ 17) count }
-    ensures { result.0 ≡ first.now.0 +ℤ pos 400000 *ℤ count }
-{
-    Nm(first.0 + 400_000 * i64::from(count))
-}
-
-/// The middle of a cell, where `corner` is that of the cell 0 0.
-fn cell_point(corner: &Point3, x: i32, y: i32) -> Point3
-    requires corner { IsClose corner.now }
-    requires x { Within (2 ^ 17) x }
-    requires y { Within (2 ^ 17) y }
-    ensures { result ≡ cell_point corner.now x y }
-{
-    Point3 {
-        x: middle_after(&corner.x, x),
-        y: middle_after(&corner.y, y),
-        z: corner.z,
-    }
 }
 
 /// The box of the cells after a turn, and the middle of the cell 0 0 at the height at which layer `k` is sampled.
@@ -108,59 +84,6 @@ fn facets_at(alloc: Global, facets: &[Facet], quarter: u8, z: &Nm) -> Result<Vec
     Ok(spanning)
 }
 
-/// The middle of the first cell of a row.
-fn first_point(corner: &Point3, row: u32) -> Point3
-    requires corner { IsClose corner.now }
-    requires row { row < 8192 }
-    ensures { result ≡ cell_point corner.now (pos 0) (pos row) }
-{
-    cell_point(corner, 0, row as i32)
-}
-
-/// Fills or empties the cell at a column and a row.
-fn put_cell(plane: &mut Plane, column: u32, row: u32, inside: bool)
-    requires origin_x { plane.old.bounds.x0 ≡ pos 0 }
-    requires origin_y { plane.old.bounds.y0 ≡ pos 0 }
-    requires column { column < plane.old.bounds.cols }
-    requires row { row < plane.old.bounds.rows }
-    requires few_columns { column < 8192 }
-    requires few_rows { row < 8192 }
-    ensures { plane.new ≡ with_cell plane.old (pos column) (pos row) inside }
-{
-    plane.set(column as i32, row as i32, inside);
-}
-
-/// Fills the cells of a row whose middles lie in the mesh. `marks` is one longer than the row, and what it holds
-/// before and after does not matter.
-fn fill_row(
-    plane: &mut Plane,
-    marks: &mut [bool],
-    bounds: Box2,
-    facets: &[Facet],
-    corner: &Point3,
-    row: u32,
-)
-    requires origin_x { bounds.x0 ≡ pos 0 }
-    requires origin_y { bounds.y0 ≡ pos 0 }
-    requires row { row < bounds.rows }
-    requires marks { length marks.old ≡ bounds.cols + 1 }
-    requires corner { IsClose corner.now }
-    requires points { 0 < bounds.cols → IsClose (cell_point corner.now (pos 0) (pos row)) }
-    requires facets { AllClose facets.now }
-    requires before { plane.old ≡ filled_to bounds facets.now corner.now row 0 }
-    ensures marks { length marks.new ≡ bounds.cols + 1 }
-    ensures plane { plane.new ≡ filled_to bounds facets.now corner.now (row + 1) 0 }
-{
-    if bounds.cols == 0 {
-        return;
-    }
-    let first = first_point(corner, row);
-    fold_row(marks, facets, &first, bounds.cols as usize);
-    for column in 0..bounds.cols {
-        put_cell(plane, column, row, marks[column as usize + 1]);
-    }
-}
-
 /// The cells of a box at 0 0 whose middles lie in the mesh, where `corner` is the middle of the cell 0 0.
 pub(crate) fn slice_facets(
     alloc: Global,
@@ -176,9 +99,11 @@ pub(crate) fn slice_facets(
     ensures { IfOk result (λ p. p ≡ inside_of bounds facets.now corner.now) }
 {
     let mut plane = Plane::empty(alloc, bounds)?;
-    let mut marks = vec![in alloc; false; bounds.cols as usize + 1]?;
-    for row in 0..bounds.rows {
-        fill_row(&mut plane, &mut marks, bounds, facets, corner, row);
+    if bounds.cols == 0 {
+        return Ok(plane);
+    }
+    for facet in facets {
+        flip_facet(&mut plane, bounds, corner, facet);
     }
     Ok(plane)
 }

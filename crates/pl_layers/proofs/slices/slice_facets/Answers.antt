@@ -1,18 +1,18 @@
-use Rattle.std.proofs.Common.{◌≡◌, ◌∙◌, ap, arith}
+use Rattle.std.proofs.Common.{◌<◌, ◌∙◌, ap, sym, take, length, arith}
 use Rattle.pl_grid.specs.Extent.{Extent}
-use Rattle.pl_layers.specs.Filling.{filled_to}
-use Rattle.pl_layers.proofs.Filling.{fill_none, fill_all}
+use Rattle.pl_layers.proofs.Flipping.{inside_empty, inside_full, facet_step}
 use Rattle.pl_layers.proofs.slices.slice_facets.Goals as goal
 
-pub loop-row-init : goal.loop-row-init
-loop-row-init c = (c.in_ok-plane.ensures ∙ fill_none c.args.bounds c.args.facets.now c.args.corner.now (record { left = c.requires.origin_x; bottom = c.requires.origin_y }), omega (arith, c.in_ok-marks.ensures.len, ap (λ (e : Extent). e.cols) c.bounds.view_is))
+pub returns-then-bounds-eq0 : goal.returns-then-bounds-eq0
+returns-then-bounds-eq0 c = c.in_ok-plane.ensures ∙ inside_empty c.args.bounds c.args.facets.now c.args.corner.now (sym (ap (λ (e : Extent). e.cols) c.bounds.view_is) ∙ c.if-bounds-eq0.true)
 
-pub fill_row-requires-clause-points : goal.fill_row-requires-clause-points
-fill_row-requires-clause-points c = λ some. c.requires.points 0 c.loop-row.row some (omega (arith, ap (λ (e : Extent). e.rows) c.bounds.view_is))
+pub flip_facet-requires-clause-full : goal.flip_facet-requires-clause-full
+flip_facet-requires-clause-full c = inside_full c.args.bounds (take c.loop-facet.facet-index c.args.facets.now) c.args.corner.now c.loop-facet.plane c.loop-facet.invariant
 
-pub returns : goal.returns
-returns c =
-    let last : c.loop-row.row ≡ c.args.bounds.rows = omega (arith, ap (λ (e : Extent). e.rows) c.bounds.view_is) in
-    c.loop-row.invariant.0
-    ∙ ap (λ row. filled_to c.args.bounds c.args.facets.now c.args.corner.now row 0) last
-    ∙ fill_all c.args.bounds c.args.facets.now c.args.corner.now (record { left = c.requires.origin_x; bottom = c.requires.origin_y })
+pub flip_facet-requires-clause-points : goal.flip_facet-requires-clause-points
+flip_facet-requires-clause-points c = λ j inside. c.requires.points 0 j (omega (arith, c.if-bounds-eq0.false, ap (λ (e : Extent). e.cols) c.bounds.view_is)) inside
+
+pub loop-facet-preserved : goal.loop-facet-preserved
+loop-facet-preserved c =
+    let less : c.loop-facet.facet-index < length c.args.facets.now = omega arith in
+    facet_step c.args.bounds c.args.facets.now c.loop-facet.facet-index _ c.args.corner.now c.loop-facet.plane c.flip_facet.new.plane c.loop-facet.invariant c.flip_facet.ensures less

@@ -1,5 +1,4 @@
 use Rattle.std.proofs.Common.{◌≡◌}
-use Rattle.pl_layers.specs.Sweeps.{Swept}
 use Rattle.pl_layers.proofs.tests.a_sweep_gives_each_layer_in_turn.Given as goal
 
 abbrev pub invariant-loop-k : goal.invariant-loop-k
