@@ -1,11 +1,10 @@
 -- One facet and one row: the cells that it hits are those below one place.
-use Rattle.std.proofs.Common.{◌≡◌, ℤ, ℕ, pos, negsuc, suc, zero, neg_ℤ, ◌*ℤ◌, ◌-ℤ◌, ◌+◌, ◌≤◌, ◌<◌, ◌*◌, ◌/◌, ◌%◌, ◌==◌, Bool, true, false, ◌&&◌, cond, List, [], ◌∷◌, arith, refl, ap, sym, ◌∙◌, unsigned_abs}
+use Rattle.std.proofs.Common.{◌≡◌, ℤ, ℕ, pos, negsuc, suc, zero, neg_ℤ, ◌*ℤ◌, ◌-ℤ◌, ◌+◌, ◌≤◌, ◌<◌, ◌*◌, ◌/◌, Bool, true, false, ◌&&◌, cond, arith, refl, ap, sym, ◌∙◌, unsigned_abs}
 use Rattle.std.specs.Prelude.{nat_lt, int_lt}
-use Rattle.std.specs.List.{count_by}
 use Rattle.std.proofs.lemmas.Int.{ints}
 use Rattle.std.proofs.lemmas.Nat.{div-add-mod', mod_below, mul-le}
 use Rattle.std.proofs.lemmas.Bool.Decides.{nat_tests}
-use Rattle.pl_layers.specs.Hits.{crosses_oddly, hits, same_sign, either_or, is_in_mesh}
+use Rattle.pl_layers.specs.Hits.{crosses_oddly, hits, same_sign}
 use Rattle.pl_stl.specs.declared.mesh.Point3.{Point3}
 use Rattle.pl_stl.specs.declared.mesh.Facet.{Facet}
 use Rattle.pl_layers.specs.Rows.{along, turn, volume_at, steps_below, columns_behind, columns_hit}
@@ -81,24 +80,3 @@ hits_along cell i p f h =
     ap (λ v. crosses_oddly p f && same_sign v (turn f)) (volume_along p (pos (i * cell)) f)
     ∙ ap (λ b. crosses_oddly p f && b) (ahead_of i cell (volume_at p f) (turn f) h)
     ∙ and_lt (crosses_oddly p f) i (columns_behind cell p f)
-
--- ---- all facets of a row
-
-pub count_by_same : {X : Type 0} (p q : X → Bool) → ((x : X) → p x ≡ q x) → (xs : List X) → count_by p xs ≡ count_by q xs
-count_by_same p q h [] = refl
-count_by_same p q h (x ∷ xs) = grind (arith, h x, count_by_same p q h xs)
-
--- a cell is filled where an odd number of facets are hit in columns that reach beyond it
-pub is_in_mesh_along : (cell i : ℕ) (p : Point3) (mesh : List Facet) → 0 < cell → is_in_mesh mesh (along p (pos (i * cell))) ≡ (count_by (λ f. nat_lt i (columns_hit cell p f)) mesh % 2 == 1)
-is_in_mesh_along cell i p mesh h = ap (λ n. n % 2 == 1) (count_by_same (hits (along p (pos (i * cell)))) (λ f. nat_lt i (columns_hit cell p f)) (λ f. hits_along cell i p f h) mesh)
-
--- one more that counts turns the parity over
-pub odd_step : (n : ℕ) (b : Bool) → ((cond b 1 0 + n) % 2 == 1) ≡ either_or b (n % 2 == 1)
-odd_step n true = grind (arith, nat_tests)
-odd_step n false = ap (λ k. k % 2 == 1) (omega arith)
-
-either_assoc : (a b c : Bool) → either_or (either_or a b) c ≡ either_or a (either_or b c)
-either_assoc true true true = refl
-either_assoc true true false = refl
-either_assoc true false c = refl
-either_assoc false b c = refl

@@ -6,7 +6,6 @@ use Rattle.std.specs.List.{count_by}
 use Rattle.std.proofs.lemmas.Int.{ints}
 use Rattle.std.proofs.lemmas.Bool.Decides.{nat_tests, Decides-int_eq}
 use Rattle.std.proofs.lemmas.List.Sums.{sum_by_more}
-use Rattle.std.proofs.Math.Seq.{take-length}
 use Rattle.pl_stl.specs.declared.mesh.Point3.{Point3}
 use Rattle.pl_stl.specs.declared.mesh.Facet.{Facet}
 use Rattle.pl_grid.specs.Extent.{Extent, row_of}
@@ -192,9 +191,6 @@ facet_step b mesh k d corner old new eo en h = en ∙ ap (λ q. with_facet corne
 -- the cells of some facets are the values of a box
 pub inside_full : (b : Extent) (mesh : List Facet) (corner : Point3) (p : Cells) → p ≡ inside_of b mesh corner → IsFull p
 inside_full b mesh corner p e = subst (λ (q : Cells). IsFull q) (sym e) (IsFull-plane_of b (λ x y. is_in_mesh mesh (cell_point corner x y)))
-
-pub inside_all : (b : Extent) (mesh : List Facet) (k : ℕ) (corner : Point3) → k ≡ length mesh → inside_of b (take k mesh) corner ≡ inside_of b mesh corner
-inside_all b mesh k corner e = ap (λ fs. inside_of b fs corner) (ap (λ n. take n mesh) e ∙ take-length mesh)
 
 -- a box without columns
 pub inside_empty : (b : Extent) (mesh : List Facet) (corner : Point3) → b.cols ≡ 0 → empty_plane b ≡ inside_of b mesh corner

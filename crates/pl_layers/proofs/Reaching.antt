@@ -1,5 +1,5 @@
 -- Facets that lie wholly on one side of a row are hit from no cell of it.
-use Rattle.std.proofs.Common.{◌≡◌, ℤ, ℕ, pos, negsuc, zero, suc, ◌+ℤ◌, ◌-ℤ◌, ◌*ℤ◌, ◌≤ℤ◌, ◌<ℤ◌, Bool, true, false, ◌&&◌, ◌||◌, not, cond, min, arith, refl, ap, sym, ◌∙◌}
+use Rattle.std.proofs.Common.{◌≡◌, ℤ, pos, negsuc, zero, suc, ◌+ℤ◌, ◌-ℤ◌, ◌*ℤ◌, ◌≤ℤ◌, ◌<ℤ◌, Bool, true, false, ◌&&◌, ◌||◌, not, cond, arith, refl, ap, sym, ◌∙◌}
 use Rattle.std.specs.Prelude.{int_le, int_lt}
 use Rattle.std.proofs.lemmas.Int.{ints}
 use Rattle.std.proofs.lemmas.Nat.{mul-le}
@@ -7,7 +7,7 @@ use Rattle.std.proofs.lemmas.Bool.Decides.{nat_tests}
 use Rattle.pl_stl.specs.declared.mesh.Point3.{Point3}
 use Rattle.pl_stl.specs.declared.mesh.Facet.{Facet}
 use Rattle.pl_layers.specs.Hits.{side_of_edge, crosses, crosses_oddly, either_or}
-use Rattle.pl_layers.specs.Rows.{misses_row, columns_hit, columns_behind}
+use Rattle.pl_layers.specs.Rows.{misses_row}
 use Rattle.pl_layers.proofs.Slopes.{mul_add, sub_mul}
 
 -- ---- signs of products
@@ -135,8 +135,3 @@ by_ends p f false false true ea eb ec h = absurd (grind arith)
 -- a facet that lies wholly on one side of a row is hit from no cell of it
 pub misses : (p : Point3) (f : Facet) → misses_row p f ≡ true → crosses_oddly p f ≡ false
 misses p f h = by_ends p f (int_le f.a.y.0 p.y.0) (int_le f.b.y.0 p.y.0) (int_le f.c.y.0 p.y.0) refl refl refl h
-
-pub none_hit : (p : Point3) (f : Facet) (most : ℕ) → misses_row p f ≡ true → 0 ≡ min most (columns_hit 400000 p f)
-none_hit p f most h =
-    let none : columns_hit 400000 p f ≡ 0 = ap (λ b. cond b (columns_behind 400000 p f) 0) (misses p f h) in
-    omega (arith, none)
