@@ -2,11 +2,12 @@
 use Rattle.std.proofs.Common.{◌≡◌, ◌==◌, ◌+◌, ◌-◌, ◌*◌, ◌/◌, ◌%◌, ◌^◌, ◌<◌, ◌≤◌, ℕ, zero, suc, Bool, true, false, cond, not, ◌&&◌, refl, ap, sym, ◌∙◌, arith, max, min, add-zero}
 use Rattle.std.specs.Int.{bit_at, bit_not, w64}
 use Rattle.std.specs.Prelude.{bit_or, bit_and, nat_lt}
-use Rattle.std.proofs.lemmas.Nat.{shr-shr, shr_split, pow_pos}
+use Rattle.std.proofs.lemmas.Nat.{shr-shr, pow_pos}
 use Rattle.std.proofs.lemmas.Nat.Bits.{bit_at_or, bit_at_cat_low, bit_at_cat_high, bit_at-zero, bit_at_above, bit_at_set_same, bit_at_set_other, bit_at_clear_same, bit_at_clear_other, bit_at-trailing_zeros, ones_shr}
 use Rattle.std.specs.Int.Count.{count_trailing_zeros, trailing_of_zero}
 use Rattle.pl_lanes.specs.Bits.{has_bit}
 use Rattle.pl_lanes.proofs.BitLemmas.{has_bit-and, has_bit-not, has_bit-ones}
+use Rattle.pl_lanes.proofs.SquareLemmas.{cut}
 use Rattle.pl_grid.proofs.Cases.{by_eq, by_lt, eq_yes, eq_no, lt_yes, lt_no, false_not_true}
 
 -- ---- one bit changed
@@ -56,9 +57,6 @@ pub unset_after_set : (word at : ℕ) → word < 2 ^ 64 → at < 64 → has_bit 
 unset_after_set word at small h e = has_bit-not word at small h ∙ ap not e
 
 -- ---- a word moved up
-
-cut : (n k : ℕ) → k < 64 → bit_at (n % 2 ^ 64) k ≡ bit_at n k
-cut n k h = sym (bit_at_cat_low (n / 2 ^ 64) 64 (n % 2 ^ 64) k h) ∙ ap (λ m. bit_at m k) (shr_split n 64)
 
 up_low : (word by k : ℕ) → k < 64 → k < by → bit_at (word * 2 ^ by % 2 ^ 64) k ≡ 0
 up_low word by k h low = cut (word * 2 ^ by) k h ∙ ap (λ m. bit_at m k) (sym (add-zero (word * 2 ^ by))) ∙ bit_at_cat_low word by 0 k low ∙ bit_at-zero k

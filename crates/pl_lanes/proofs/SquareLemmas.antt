@@ -10,7 +10,7 @@ use Rattle.pl_lanes.proofs.BitLemmas.{has_bit-and, has_bit-or, has_bit-not}
 
 -- ---- a word moved by some places
 
-cut : (n k : ℕ) → k < 64 → bit_at (n % 2 ^ 64) k ≡ bit_at n k
+pub cut : (n k : ℕ) → k < 64 → bit_at (n % 2 ^ 64) k ≡ bit_at n k
 cut n k h = sym (bit_at_cat_low (n / 2 ^ 64) 64 (n % 2 ^ 64) k h) ∙ ap (λ m. bit_at m k) (shr_split n 64)
 
 shl_low : (word by k : ℕ) → k < 64 → k < by → has_bit (word * 2 ^ by % 2 ^ 64) k ≡ false

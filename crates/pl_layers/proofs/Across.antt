@@ -1,5 +1,5 @@
 -- The rows that a facet spans: it misses all others.
-use Rattle.std.proofs.Common.{◌≡◌, ℤ, ℕ, pos, ◌+ℤ◌, ◌-ℤ◌, ◌*ℤ◌, ◌*◌, ◌<◌, ◌≤◌, ◌^◌, true, false, ◌&&◌, ◌||◌, not, min, arith, sym, ◌∙◌, ap, subst}
+use Rattle.std.proofs.Common.{◌≡◌, ℤ, ℕ, pos, ◌+ℤ◌, ◌-ℤ◌, ◌*ℤ◌, ◌*◌, ◌<◌, ◌≤◌, true, false, ◌&&◌, ◌||◌, not, min, arith, sym, ◌∙◌, ap, subst}
 use Rattle.std.specs.Prelude.{nat_lt, int_lt, int_le}
 use Rattle.std.specs.Int.{int_min, int_max}
 use Rattle.std.proofs.lemmas.Int.{ints}
@@ -11,20 +11,15 @@ use Rattle.pl_layers.specs.Near.{IsCloseFacet}
 use Rattle.pl_layers.specs.Rows.{steps_below, misses_row}
 use Rattle.pl_layers.specs.Slices.{cell_point}
 use Rattle.pl_layers.proofs.Behind.{steps_below_is}
+use Rattle.pl_layers.proofs.Extremes.{max_near, min_near}
 
 -- ---- the ends of a facet are small numbers
 
-least_of : (n : ℕ) (a b : ℤ) → Within n a → Within n b → Within n (int_min a b)
-least_of n a b wa wb = record { low = grind (arith, ints, nat_tests, wa.low, wb.low); high = grind (arith, ints, nat_tests, wa.high, wb.high) }
+pub least_close : (f : Facet) (y : ℤ) → IsCloseFacet f → y ≡ int_min (int_min f.a.y.0 f.b.y.0) f.c.y.0 → Within 1001000000 y
+least_close f y h e = subst (λ (v : ℤ). Within 1001000000 v) (sym e) (min_near 1001000000 (int_min f.a.y.0 f.b.y.0) f.c.y.0 (min_near 1001000000 f.a.y.0 f.b.y.0 h.a.y h.b.y) h.c.y)
 
-greatest_of : (n : ℕ) (a b : ℤ) → Within n a → Within n b → Within n (int_max a b)
-greatest_of n a b wa wb = record { low = grind (arith, ints, nat_tests, wa.low, wb.low); high = grind (arith, ints, nat_tests, wa.high, wb.high) }
-
-pub least_close : (f : Facet) (y : ℤ) → IsCloseFacet f → y ≡ int_min (int_min f.a.y.0 f.b.y.0) f.c.y.0 → Within (2 ^ 30) y
-least_close f y h e = subst (λ (v : ℤ). Within (2 ^ 30) v) (sym e) (least_of (2 ^ 30) (int_min f.a.y.0 f.b.y.0) f.c.y.0 (least_of (2 ^ 30) f.a.y.0 f.b.y.0 h.a.y h.b.y) h.c.y)
-
-pub greatest_close : (f : Facet) (y : ℤ) → IsCloseFacet f → y ≡ int_max (int_max f.a.y.0 f.b.y.0) f.c.y.0 → Within (2 ^ 30) y
-greatest_close f y h e = subst (λ (v : ℤ). Within (2 ^ 30) v) (sym e) (greatest_of (2 ^ 30) (int_max f.a.y.0 f.b.y.0) f.c.y.0 (greatest_of (2 ^ 30) f.a.y.0 f.b.y.0 h.a.y h.b.y) h.c.y)
+pub greatest_close : (f : Facet) (y : ℤ) → IsCloseFacet f → y ≡ int_max (int_max f.a.y.0 f.b.y.0) f.c.y.0 → Within 1001000000 y
+greatest_close f y h e = subst (λ (v : ℤ). Within 1001000000 v) (sym e) (max_near 1001000000 (int_max f.a.y.0 f.b.y.0) f.c.y.0 (max_near 1001000000 f.a.y.0 f.b.y.0 h.a.y h.b.y) h.c.y)
 
 -- ---- the rows before its least y, and those from its greatest on
 

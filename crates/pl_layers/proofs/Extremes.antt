@@ -1,100 +1,18 @@
--- The least and the greatest of a list, from its front.
-use Rattle.std.proofs.Common.{◌≡◌, ℤ, ℕ, pos, suc, zero, ◌≤ℤ◌, ◌-ℤ◌, ◌+◌, ◌≤◌, ◌<◌, ◌^◌, neg_ℤ, List, [], ◌∷◌, ◌++◌, length, take, get_or, arith, refl, ap, sym, ◌∙◌, append_assoc, unsigned_abs}
+-- The least and the greatest of the coordinates of a mesh, and of one that is turned.
+use Rattle.std.proofs.Common.{◌≡◌, ℤ, ℕ, suc, zero, ◌≤ℤ◌, ◌-ℤ◌, ◌^◌, neg_ℤ, List, [], ◌∷◌, map, get_or, arith, refl, ap, sym, ◌∙◌, unsigned_abs}
 use Rattle.std.specs.List.{All}
 use Rattle.std.proofs.lemmas.List.Elements.{All-cons, All-map}
 use Rattle.std.specs.Int.{int_min, int_max}
 use Rattle.std.proofs.lemmas.Int.{ints}
 use Rattle.std.proofs.lemmas.Bool.Decides.{nat_tests}
-use Rattle.std.proofs.Math.Seq.{take-length}
-use Rattle.std.proofs.lemmas.List.{take_more, map-append}
-use Rattle.std.proofs.lemmas.Grind.{flat_map-append}
 use Rattle.pl_units.specs.Within.{Within}
 use Rattle.pl_stl.specs.Mesh.{IsNear, IsNearFacet}
 use Rattle.pl_stl.specs.declared.mesh.Point3.{Point3}
 use Rattle.pl_stl.specs.declared.mesh.Facet.{Facet}
-use Rattle.pl_layers.specs.Turned.{turned, turned_facet, turned_mesh, coordinates, least, greatest, reach, part_z}
-use Rattle.pl_layers.specs.Parts.{with_corners}
-
--- ---- a number chosen among those of a list
-
-abbrev pub chosen : (ℤ → ℤ → ℤ) → List ℤ → ℤ
-chosen choose [] = pos 0
-chosen choose (z ∷ []) = z
-chosen choose (z ∷ y ∷ zs) = choose z (chosen choose (y ∷ zs))
-
--- the order and the number of times do not matter
-pub record IsChoice (choose : ℤ → ℤ → ℤ) : Type 0 where
-  pub regroups : (x y z : ℤ) → choose x (choose y z) ≡ choose (choose x y) z
-  pub repeats : (x : ℤ) → choose x x ≡ x
-
-pub IsChoice-int_min : IsChoice int_min
-IsChoice-int_min = record { regroups = λ x y z. grind (arith, ints, nat_tests); repeats = λ x. grind (arith, ints, nat_tests) }
-
-pub IsChoice-int_max : IsChoice int_max
-IsChoice-int_max = record { regroups = λ x y z. grind (arith, ints, nat_tests); repeats = λ x. grind (arith, ints, nat_tests) }
-
-pub least_is : (zs : List ℤ) → least zs ≡ chosen int_min zs
-least_is [] = refl
-least_is (z ∷ []) = refl
-least_is (z ∷ y ∷ zs) = ap (int_min z) (least_is (y ∷ zs))
-
-pub greatest_is : (zs : List ℤ) → greatest zs ≡ chosen int_max zs
-greatest_is [] = refl
-greatest_is (z ∷ []) = refl
-greatest_is (z ∷ y ∷ zs) = ap (int_max z) (greatest_is (y ∷ zs))
-
-chosen_more : (choose : ℤ → ℤ → ℤ) (s : ℤ) (zs : List ℤ) (a : ℤ) → IsChoice choose → chosen choose (s ∷ (zs ++ a ∷ [])) ≡ choose (chosen choose (s ∷ zs)) a
-chosen_more choose s [] a is = refl
-chosen_more choose s (z ∷ zs) a is = ap (choose s) (chosen_more choose z zs a is) ∙ is.regroups s (chosen choose (z ∷ zs)) a
-
-chosen_three : (choose : ℤ → ℤ → ℤ) (s : ℤ) (zs : List ℤ) (a b c : ℤ) → IsChoice choose → chosen choose (s ∷ (zs ++ a ∷ b ∷ c ∷ [])) ≡ choose (choose (choose (chosen choose (s ∷ zs)) a) b) c
-chosen_three choose s zs a b c is =
-    let split : zs ++ a ∷ b ∷ c ∷ [] ≡ ((zs ++ a ∷ []) ++ b ∷ []) ++ c ∷ [] = simp append_assoc in
-    ap (λ xs. chosen choose (s ∷ xs)) split
-    ∙ chosen_more choose s ((zs ++ a ∷ []) ++ b ∷ []) c is
-    ∙ ap (λ z. choose z c) (chosen_more choose s (zs ++ a ∷ []) b is ∙ ap (λ z. choose z b) (chosen_more choose s zs a is))
-
-chosen_twice : (choose : ℤ → ℤ → ℤ) (s : ℤ) (zs : List ℤ) → IsChoice choose → chosen choose (s ∷ s ∷ zs) ≡ chosen choose (s ∷ zs)
-chosen_twice choose s [] is = is.repeats s
-chosen_twice choose s (z ∷ zs) is = is.regroups s s (chosen choose (z ∷ zs)) ∙ ap (λ x. choose x (chosen choose (z ∷ zs))) (is.repeats s)
-
--- ---- over the corners of a turned mesh
-
-coordinates_more : (part : Point3 → ℤ) (quarter : ℕ) (mesh : List Facet) (k : ℕ) (d : Facet) → k < length mesh
-    → coordinates part (turned_mesh quarter (take (k + 1) mesh)) ≡ coordinates part (turned_mesh quarter (take k mesh)) ++ coordinates part (turned_facet quarter (get_or mesh k d) ∷ [])
-coordinates_more part quarter mesh k d less =
-    ap (λ fs. coordinates part (turned_mesh quarter fs)) (take_more mesh k d less)
-    ∙ ap (coordinates part) (map-append (turned_facet quarter) (take k mesh) (get_or mesh k d ∷ []))
-    ∙ flat_map-append (λ f. part f.a ∷ part f.b ∷ part f.c ∷ []) (turned_mesh quarter (take k mesh)) (turned_facet quarter (get_or mesh k d) ∷ [])
-
--- what was chosen among a number and the corners of the first k facets
-pub record IsChosen (choose : ℤ → ℤ → ℤ) (part : Point3 → ℤ) (quarter : ℕ) (start : ℤ) (mesh : List Facet) (k : ℕ) (z : ℤ) : Type 0 where
-  pub value : z ≡ chosen choose (start ∷ coordinates part (turned_mesh quarter (take k mesh)))
-  pub near : Within (10 ^ 9) z
-
-pub chosen_none : (choose : ℤ → ℤ → ℤ) (part : Point3 → ℤ) (quarter : ℕ) (start : ℤ) (mesh : List Facet) → Within (10 ^ 9) start → IsChosen choose part quarter start mesh 0 start
-chosen_none choose part quarter start mesh near = record { value = refl; near = near }
-
-pub chosen_next : (choose : ℤ → ℤ → ℤ) (part : Point3 → ℤ) (quarter : ℕ) (start : ℤ) (mesh : List Facet) (k : ℕ) (d : Facet) (f : Facet) (old new : ℤ) → IsChoice choose → IsChosen choose part quarter start mesh k old → k < length mesh → f ≡ turned_facet quarter (get_or mesh k d) → new ≡ with_corners choose part f old → Within (10 ^ 9) new → IsChosen choose part quarter start mesh (k + 1) new
-chosen_next choose part quarter start mesh k d f old new is so less ef en near =
-    record {
-      value =
-          en ∙ ap (λ g. with_corners choose part g old) ef ∙ ap (with_corners choose part (turned_facet quarter (get_or mesh k d))) so.value
-          ∙ sym (chosen_three choose start (coordinates part (turned_mesh quarter (take k mesh))) _ _ _ is)
-          ∙ sym (ap (λ zs. chosen choose (start ∷ zs)) (coordinates_more part quarter mesh k d less));
-      near = near;
-    }
-
-take_whole : {X : Type 0} (xs : List X) (k : ℕ) → k ≡ length xs → take k xs ≡ xs
-take_whole xs k e = ap (λ n. take n xs) e ∙ take-length xs
-
-pub chosen_all : (choose : ℤ → ℤ → ℤ) (part : Point3 → ℤ) (quarter : ℕ) (p : Point3) (start : ℤ) (mesh : List Facet) (k : ℕ) (d : Facet) (z : ℤ) → IsChoice choose → IsChosen choose part quarter start mesh k z → k ≡ length mesh → 1 ≤ length mesh → p ≡ turned quarter (get_or mesh 0 d).a → start ≡ part p → z ≡ chosen choose (coordinates part (turned_mesh quarter mesh))
-chosen_all choose part quarter p start [] k d z is so all some ep es = absurd (omega arith)
-chosen_all choose part quarter p start (f ∷ fs) k d z is so all some ep es =
-    so.value
-    ∙ ap (λ gs. chosen choose (start ∷ coordinates part (turned_mesh quarter gs))) (take_whole (f ∷ fs) k all)
-    ∙ ap (λ s. chosen choose (s ∷ coordinates part (turned_mesh quarter (f ∷ fs)))) (es ∙ ap part ep)
-    ∙ chosen_twice choose (part (turned quarter f.a)) (part (turned quarter f.b) ∷ part (turned quarter f.c) ∷ coordinates part (turned_mesh quarter fs)) is
+use Rattle.pl_layers.specs.Turned.{turned, turned_facet, turned_mesh, reach}
+use Rattle.pl_stl.specs.Coordinates.{coordinates, least, greatest, part_z}
+use Rattle.pl_stl.specs.declared.span.Span.{Span}
+use Rattle.pl_stl.specs.Spans.{IsNearSpan, IsSpan}
 
 -- ---- how far apart they are
 
@@ -117,13 +35,52 @@ turned_z (suc (suc (suc n))) p = refl
 same_four : (a b c d e f : ℤ) (xs ys : List ℤ) → a ≡ d → b ≡ e → c ≡ f → xs ≡ ys → a ∷ b ∷ c ∷ xs ≡ d ∷ e ∷ f ∷ ys
 same_four a b c d e f xs ys p q r s = cc
 
+-- a coordinate that turns into another one
+turned_coordinates : (part other : Point3 → ℤ) (quarter : ℕ) (mesh : List Facet) → ((p : Point3) → part (turned quarter p) ≡ other p) → coordinates part (turned_mesh quarter mesh) ≡ coordinates other mesh
+turned_coordinates part other quarter [] is = refl
+turned_coordinates part other quarter (f ∷ fs) is = same_four _ _ _ _ _ _ _ _ (is f.a) (is f.b) (is f.c) (turned_coordinates part other quarter fs is)
+
+pub turned_span : (part other : Point3 → ℤ) (quarter : ℕ) (mesh : List Facet) (s : Span) → ((p : Point3) → part (turned quarter p) ≡ other p) → IsSpan other mesh s → IsSpan part (turned_mesh quarter mesh) s
+turned_span part other quarter mesh s is h =
+    let same : coordinates part (turned_mesh quarter mesh) ≡ coordinates other mesh = turned_coordinates part other quarter mesh is in
+    record { least = h.least ∙ sym (ap least same); greatest = h.greatest ∙ sym (ap greatest same); near = h.near }
+
 -- turning about z leaves the heights as they are
-pub heights_stay : (quarter : ℕ) (mesh : List Facet) → coordinates part_z (turned_mesh quarter mesh) ≡ coordinates part_z mesh
-heights_stay quarter [] = refl
-heights_stay quarter (f ∷ fs) = same_four _ _ _ _ _ _ _ _ (turned_z quarter f.a) (turned_z quarter f.b) (turned_z quarter f.c) (heights_stay quarter fs)
+pub heights_span : (quarter : ℕ) (mesh : List Facet) (s : Span) → IsSpan part_z mesh s → IsSpan part_z (turned_mesh quarter mesh) s
+heights_span quarter mesh s = turned_span part_z part_z quarter mesh s (turned_z quarter)
 
 pub reach_stays : (quarter : ℕ) (mesh : List Facet) → reach part_z (turned_mesh quarter mesh) ≡ reach part_z mesh
-reach_stays quarter mesh = ap (λ zs. unsigned_abs (greatest zs -ℤ least zs)) (heights_stay quarter mesh)
+reach_stays quarter mesh = ap (λ zs. unsigned_abs (greatest zs -ℤ least zs)) (turned_coordinates part_z part_z quarter mesh (turned_z quarter))
+
+-- a coordinate that turns into the opposite of another one
+opposite_coordinates : (part other : Point3 → ℤ) (quarter : ℕ) (mesh : List Facet) → ((p : Point3) → part (turned quarter p) ≡ neg_ℤ (other p)) → coordinates part (turned_mesh quarter mesh) ≡ map neg_ℤ (coordinates other mesh)
+opposite_coordinates part other quarter [] is = refl
+opposite_coordinates part other quarter (f ∷ fs) is = same_four _ _ _ _ _ _ _ _ (is f.a) (is f.b) (is f.c) (opposite_coordinates part other quarter fs is)
+
+min_of_opposites : (a b c : ℤ) → b ≡ neg_ℤ c → int_min (neg_ℤ a) b ≡ neg_ℤ (int_max a c)
+min_of_opposites a b c e = grind (arith, ints, nat_tests, e)
+
+max_of_opposites : (a b c : ℤ) → b ≡ neg_ℤ c → int_max (neg_ℤ a) b ≡ neg_ℤ (int_min a c)
+max_of_opposites a b c e = grind (arith, ints, nat_tests, e)
+
+least_of_opposites : (zs : List ℤ) → least (map neg_ℤ zs) ≡ neg_ℤ (greatest zs)
+least_of_opposites [] = refl
+least_of_opposites (z ∷ []) = refl
+least_of_opposites (z ∷ y ∷ zs) = min_of_opposites z _ (greatest (y ∷ zs)) (least_of_opposites (y ∷ zs))
+
+greatest_of_opposites : (zs : List ℤ) → greatest (map neg_ℤ zs) ≡ neg_ℤ (least zs)
+greatest_of_opposites [] = refl
+greatest_of_opposites (z ∷ []) = refl
+greatest_of_opposites (z ∷ y ∷ zs) = max_of_opposites z _ (least (y ∷ zs)) (greatest_of_opposites (y ∷ zs))
+
+pub opposite_span : (part other : Point3 → ℤ) (quarter : ℕ) (mesh : List Facet) (s t : Span) → ((p : Point3) → part (turned quarter p) ≡ neg_ℤ (other p)) → IsSpan other mesh s → t.least.0 ≡ neg_ℤ s.greatest.0 → t.greatest.0 ≡ neg_ℤ s.least.0 → IsNearSpan t → IsSpan part (turned_mesh quarter mesh) t
+opposite_span part other quarter mesh s t is h low high near =
+    let same : coordinates part (turned_mesh quarter mesh) ≡ map neg_ℤ (coordinates other mesh) = opposite_coordinates part other quarter mesh is in
+    record {
+      least = low ∙ ap neg_ℤ h.greatest ∙ sym (least_of_opposites (coordinates other mesh)) ∙ sym (ap least same);
+      greatest = high ∙ ap neg_ℤ h.least ∙ sym (greatest_of_opposites (coordinates other mesh)) ∙ sym (ap greatest same);
+      near = near;
+    }
 
 -- ---- near the origin
 
@@ -149,10 +106,10 @@ coordinates_near part (f ∷ fs) each h =
     let rest : All (Within (10 ^ 9)) (coordinates part fs) = coordinates_near part fs each (λ k d less. h (suc k) d (omega arith)) in
     All-cons (Within (10 ^ 9)) (part f.a) (part f.b ∷ part f.c ∷ coordinates part fs) (each f.a here.a) (All-cons (Within (10 ^ 9)) (part f.b) (part f.c ∷ coordinates part fs) (each f.b here.b) (All-cons (Within (10 ^ 9)) (part f.c) (coordinates part fs) (each f.c here.c) rest))
 
-max_near : (n : ℕ) (a b : ℤ) → Within n a → Within n b → Within n (int_max a b)
+pub max_near : (n : ℕ) (a b : ℤ) → Within n a → Within n b → Within n (int_max a b)
 max_near n a b ha hb = record { low = grind (arith, ints, nat_tests, ha.low, hb.low); high = grind (arith, ints, nat_tests, ha.high, hb.high) }
 
-min_near : (n : ℕ) (a b : ℤ) → Within n a → Within n b → Within n (int_min a b)
+pub min_near : (n : ℕ) (a b : ℤ) → Within n a → Within n b → Within n (int_min a b)
 min_near n a b ha hb = record { low = grind (arith, ints, nat_tests, ha.low, hb.low); high = grind (arith, ints, nat_tests, ha.high, hb.high) }
 
 greatest_near : (n : ℕ) (zs : List ℤ) → All (Within n) zs → Within n (greatest zs)

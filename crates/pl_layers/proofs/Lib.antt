@@ -3,6 +3,7 @@ pub mod Samples
 pub mod Extremes
 pub mod Slopes
 pub mod Behind
+pub mod Quotients
 pub mod Reaching
 pub mod Across
 pub mod Spanning

@@ -10,7 +10,7 @@ use Rattle.pl_layers.specs.Rows.{along, turn, volume_at}
 pub mul_add : (a b c : ℤ) → a *ℤ (b +ℤ c) ≡ a *ℤ b +ℤ a *ℤ c
 mul_add a b c = omega (arith, ints, ap (λ n. up a * n) (sum_is_lem b c), ap (λ n. down a * n) (sum_is_lem b c))
 
-mul_neg : (a b : ℤ) → a *ℤ neg_ℤ b ≡ neg_ℤ (a *ℤ b)
+pub mul_neg : (a b : ℤ) → a *ℤ neg_ℤ b ≡ neg_ℤ (a *ℤ b)
 mul_neg a b = omega (arith, ints, ap (λ n. up a * n) (neg_is b).0, ap (λ n. up a * n) (neg_is b).1, ap (λ n. down a * n) (neg_is b).0, ap (λ n. down a * n) (neg_is b).1)
 
 mul_sub : (a b c : ℤ) → a *ℤ (b -ℤ c) ≡ a *ℤ b -ℤ a *ℤ c
@@ -19,15 +19,15 @@ mul_sub a b c = mul_add a b (neg_ℤ c) ∙ ap (λ z. a *ℤ b +ℤ z) (mul_neg 
 pub sub_mul : (a b c : ℤ) → (a -ℤ b) *ℤ c ≡ a *ℤ c -ℤ b *ℤ c
 sub_mul a b c = *ℤ_comm (a -ℤ b) c ∙ mul_sub c a b ∙ ap (λ z. z -ℤ c *ℤ b) (*ℤ_comm c a) ∙ ap (λ z. a *ℤ c -ℤ z) (*ℤ_comm c b)
 
-mul_left : (t u b : ℤ) → u *ℤ (t *ℤ b) ≡ t *ℤ (u *ℤ b)
+pub mul_left : (t u b : ℤ) → u *ℤ (t *ℤ b) ≡ t *ℤ (u *ℤ b)
 mul_left t u b = omega (arith, ints, ap (λ n. up u * n) (product_is t b).0, ap (λ n. up u * n) (product_is t b).1, ap (λ n. down u * n) (product_is t b).0, ap (λ n. down u * n) (product_is t b).1, ap (λ n. up t * n) (product_is u b).0, ap (λ n. up t * n) (product_is u b).1, ap (λ n. down t * n) (product_is u b).0, ap (λ n. down t * n) (product_is u b).1)
 
 -- the two products that the shift of the other two arrows changes
 shifted_products : (a b x y t : ℤ) → a *ℤ (x -ℤ t) -ℤ (y -ℤ t) *ℤ b ≡ (a *ℤ x -ℤ y *ℤ b) -ℤ t *ℤ (a -ℤ b)
 shifted_products a b x y t = omega (arith, ints, mul_sub a x t, sub_mul y t b, mul_sub t a b)
 
-normal_of : (uy uz vy vz wy wz : ℤ) → (vy -ℤ uy) *ℤ (wz -ℤ uz) -ℤ (vz -ℤ uz) *ℤ (wy -ℤ uy) ≡ (vy *ℤ wz -ℤ vz *ℤ wy) +ℤ (uy *ℤ (vz -ℤ wz) +ℤ uz *ℤ (wy -ℤ vy))
-normal_of uy uz vy vz wy wz =
+pub cross_of : (uy uz vy vz wy wz : ℤ) → (vy -ℤ uy) *ℤ (wz -ℤ uz) -ℤ (vz -ℤ uz) *ℤ (wy -ℤ uy) ≡ (vy *ℤ wz -ℤ vz *ℤ wy) +ℤ (uy *ℤ (vz -ℤ wz) +ℤ uz *ℤ (wy -ℤ vy))
+cross_of uy uz vy vz wy wz =
     omega (arith, ints, sub_mul vy uy (wz -ℤ uz), sub_mul vz uz (wy -ℤ uy), mul_sub vy wz uz, mul_sub uy wz uz, mul_sub vz wy uy, mul_sub uz wy uy, mul_sub uy vz wz, mul_sub uz wy vy)
 
 swap_out : (t u a b : ℤ) → u *ℤ (a -ℤ t *ℤ b) ≡ u *ℤ a -ℤ t *ℤ (u *ℤ b)
@@ -39,7 +39,7 @@ slope_of ux uy uz vx vy vz wx wy wz t =
     let second = ap (λ z. uy *ℤ z) (shifted_products vz wz wx vx t) ∙ swap_out t uy (vz *ℤ wx -ℤ vx *ℤ wz) (vz -ℤ wz) in
     let turned : (vx -ℤ t) *ℤ wy -ℤ vy *ℤ (wx -ℤ t) ≡ (vx *ℤ wy -ℤ vy *ℤ wx) -ℤ t *ℤ (wy -ℤ vy) = omega (arith, ints, sub_mul vx t wy, mul_sub vy wx t, mul_sub t wy vy) in
     let third = ap (λ z. uz *ℤ z) turned ∙ swap_out t uz (vx *ℤ wy -ℤ vy *ℤ wx) (wy -ℤ vy) in
-    let normal = ap (λ z. t *ℤ z) (normal_of uy uz vy vz wy wz) ∙ mul_add t (vy *ℤ wz -ℤ vz *ℤ wy) (uy *ℤ (vz -ℤ wz) +ℤ uz *ℤ (wy -ℤ vy)) ∙ ap (λ z. t *ℤ (vy *ℤ wz -ℤ vz *ℤ wy) +ℤ z) (mul_add t (uy *ℤ (vz -ℤ wz)) (uz *ℤ (wy -ℤ vy))) in
+    let normal = ap (λ z. t *ℤ z) (cross_of uy uz vy vz wy wz) ∙ mul_add t (vy *ℤ wz -ℤ vz *ℤ wy) (uy *ℤ (vz -ℤ wz) +ℤ uz *ℤ (wy -ℤ vy)) ∙ ap (λ z. t *ℤ (vy *ℤ wz -ℤ vz *ℤ wy) +ℤ z) (mul_add t (uy *ℤ (vz -ℤ wz)) (uz *ℤ (wy -ℤ vy))) in
     omega (arith, ints, second, third, normal, sub_mul ux t (vy *ℤ wz -ℤ vz *ℤ wy))
 
 -- each further unit along the ray takes the x part of the facet's normal from the volume

@@ -21,8 +21,8 @@ use Rattle.pl_grid.specs.Extent.{Extent}
 use Rattle.pl_grid.proofs.PlaneLemmas.{same_tests}
 use Rattle.pl_layers.specs.declared.heights.Heights.{Heights}
 use Rattle.pl_layers.specs.declared.sweep.Start.{Start}
-use Rattle.pl_layers.specs.Turned.{turned_facet, turned_mesh, part_z, box_of}
-use Rattle.pl_layers.specs.Parts.{with_corners}
+use Rattle.pl_layers.specs.Turned.{turned_facet, turned_mesh, box_of}
+use Rattle.pl_stl.specs.Coordinates.{part_z}
 use Rattle.pl_layers.specs.Heights.{AreHeights, sample, exists_at, layer_count_of}
 use Rattle.pl_layers.specs.Samples.{sample_of}
 use Rattle.pl_layers.specs.Hits.{hits, is_in_mesh}
@@ -162,10 +162,10 @@ layer_is quarter mesh h b base corner order next k active eb ec ez starts rising
 
 -- ---- the entries
 
-first_corner : (z a b c : ℤ) → int_lt z (int_min (int_min (int_min a a) b) c) ≡ true → (int_le a z || int_le b z || int_le c z) ≡ false
+first_corner : (z a b c : ℤ) → int_lt z (int_min (int_min a b) c) ≡ true → (int_le a z || int_le b z || int_le c z) ≡ false
 first_corner z a b c h = grind (arith, ints, nat_tests, h)
 
-pub unbegun : (z low : ℤ) (f : Facet) → low ≡ with_corners int_min part_z f f.a.z.0 → IsTrue (int_lt z low) → begins_by z f ≡ false
+pub unbegun : (z low : ℤ) (f : Facet) → low ≡ int_min (int_min f.a.z.0 f.b.z.0) f.c.z.0 → IsTrue (int_lt z low) → begins_by z f ≡ false
 unbegun z low f e h = first_corner z f.a.z.0 f.b.z.0 f.c.z.0 (sym (ap (λ y. int_lt z y) e) ∙ h)
 
 pub counted_none : (quarter : ℕ) (mesh : List Facet) → (p : Facet → Bool) → count_by (λ s. p (facet_of quarter mesh s)) [] ≡ count_by p (turned_mesh quarter (take 0 mesh))

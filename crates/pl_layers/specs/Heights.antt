@@ -4,7 +4,8 @@ use Rattle.std.specs.Int.{int_div_euclid}
 use Rattle.pl_units.specs.declared.Nm.{Nm}
 use Rattle.pl_layers.specs.declared.heights.Heights.{Heights}
 use Rattle.pl_stl.specs.declared.mesh.Facet.{Facet}
-use Rattle.pl_layers.specs.Turned.{reach, part_z}
+use Rattle.pl_layers.specs.Turned.{reach}
+use Rattle.pl_stl.specs.Coordinates.{part_z}
 
 -- both heights are in the ranges of their options
 pub record AreHeights (h : Heights) : Type 0 where

@@ -1,5 +1,4 @@
 pub mod Turned
-pub mod Parts
 pub mod Spans
 pub mod Heights
 pub mod Samples

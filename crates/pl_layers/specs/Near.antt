@@ -1,5 +1,5 @@
 -- Points and facets that are close enough to compute with.
-use Rattle.std.specs.Prelude.{◌^◌, List, ℕ}
+use Rattle.std.specs.Prelude.{List, ℕ}
 use Rattle.std.specs.List.{All}
 use Rattle.pl_units.specs.Within.{Within}
 use Rattle.pl_stl.specs.declared.mesh.Point3.{Point3}
@@ -7,9 +7,9 @@ use Rattle.pl_stl.specs.declared.mesh.Facet.{Facet}
 use Rattle.pl_layers.specs.declared.arrow.Arrow.{Arrow}
 
 pub record IsClose (p : Point3) : Type 0 where
-  pub x : Within (2 ^ 30) p.x.0
-  pub y : Within (2 ^ 30) p.y.0
-  pub z : Within (2 ^ 30) p.z.0
+  pub x : Within 1001000000 p.x.0
+  pub y : Within 1001000000 p.y.0
+  pub z : Within 1001000000 p.z.0
 
 pub record IsCloseFacet (f : Facet) : Type 0 where
   pub a : IsClose f.a

@@ -1,6 +1,7 @@
 -- The cells of a row whose ray hits a facet: those below one place.
 use Rattle.std.specs.Prelude.{ℤ, ℕ, pos, negsuc, zero, suc, neg_ℤ, ◌+ℤ◌, ◌+◌, ◌*◌, ◌/◌, Bool, ◌&&◌, if◌then◌else◌, int_lt, int_le, not, ◌||◌, unsigned_abs}
-use Rattle.pl_layers.specs.Hits.{arrow, cross_x, determinant, crosses_oddly}
+use Rattle.pl_layers.specs.Hits.{arrow, cross, cross_x, determinant, crosses_oddly}
+use Rattle.pl_layers.specs.declared.arrow.Arrow.{Arrow}
 use Rattle.pl_stl.specs.declared.mesh.Point3.{Point3}
 use Rattle.pl_stl.specs.declared.mesh.Facet.{Facet}
 
@@ -11,6 +12,9 @@ along p t = record { x = record { 0 = p.x.0 +ℤ t }; y = p.y; z = p.z }
 -- the x part of the facet's normal
 abbrev pub turn : Facet → ℤ
 turn f = cross_x (arrow f.a f.b) (arrow f.a f.c)
+
+abbrev pub normal_of : Facet → Arrow
+normal_of f = cross (arrow f.a f.b) (arrow f.a f.c)
 
 abbrev pub volume_at : Point3 → Facet → ℤ
 volume_at p f = determinant (arrow p f.a) (arrow p f.b) (arrow p f.c)

@@ -5,7 +5,8 @@ use Rattle.pl_stl.specs.declared.mesh.Facet.{Facet}
 use Rattle.pl_grid.specs.Extent.{Extent}
 use Rattle.pl_grid.specs.Planes.{Cells, plane_of}
 use Rattle.pl_layers.specs.declared.heights.Heights.{Heights}
-use Rattle.pl_layers.specs.Turned.{turned_mesh, coordinates, least, part_x, part_y, part_z, box_of}
+use Rattle.pl_layers.specs.Turned.{turned_mesh, box_of}
+use Rattle.pl_stl.specs.Coordinates.{coordinates, least, part_x, part_y, part_z}
 use Rattle.pl_layers.specs.Heights.{sample}
 use Rattle.pl_layers.specs.Hits.{is_in_mesh}
 

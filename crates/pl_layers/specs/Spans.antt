@@ -1,14 +1,8 @@
--- The span of a coordinate, and the box of the cells of two spans.
-use Rattle.std.specs.Prelude.{ℕ, pos, ◌-ℤ◌, ◌^◌, unsigned_abs}
-use Rattle.pl_units.specs.Within.{Within}
+-- How far a span reaches, and the box of the cells of two spans.
+use Rattle.std.specs.Prelude.{ℕ, pos, ◌-ℤ◌, unsigned_abs}
 use Rattle.pl_grid.specs.Extent.{Extent}
-use Rattle.pl_layers.specs.declared.turned.Span.{Span}
+use Rattle.pl_stl.specs.declared.span.Span.{Span}
 use Rattle.pl_layers.specs.Turned.{cells_across}
-
--- both ends are no further than a metre away
-pub record IsNearSpan (s : Span) : Type 0 where
-  pub low : Within (10 ^ 9) s.least.0
-  pub high : Within (10 ^ 9) s.greatest.0
 
 abbrev pub reach_of : Span → ℕ
 reach_of s = unsigned_abs (s.greatest.0 -ℤ s.least.0)

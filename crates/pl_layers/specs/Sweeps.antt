@@ -8,7 +8,8 @@ use Rattle.pl_stl.specs.Mesh.{IsMesh}
 use Rattle.pl_grid.specs.Extent.{Extent}
 use Rattle.pl_layers.specs.declared.heights.Heights.{Heights}
 use Rattle.pl_layers.specs.declared.sweep.Start.{Start}
-use Rattle.pl_layers.specs.Turned.{turned_facet, turned_mesh, coordinates, least, part_x, part_y, part_z, box_of}
+use Rattle.pl_layers.specs.Turned.{turned_facet, turned_mesh, box_of}
+use Rattle.pl_stl.specs.Coordinates.{coordinates, least, part_x, part_y, part_z}
 use Rattle.pl_layers.specs.Heights.{AreHeights, sample}
 use Rattle.pl_layers.specs.Near.{AllClose}
 

@@ -1,9 +1,8 @@
 -- A mesh turned by quarters about z, and the box of its cells.
-use Rattle.std.specs.Prelude.{ℤ, ℕ, zero, suc, pos, neg_ℤ, ◌-ℤ◌, ◌+◌, ◌/◌, List, [], ◌∷◌, map, unsigned_abs}
-use Rattle.std.specs.List.{flat_map}
-use Rattle.std.specs.Int.{int_min, int_max}
+use Rattle.std.specs.Prelude.{ℤ, ℕ, zero, suc, pos, neg_ℤ, ◌-ℤ◌, ◌+◌, ◌/◌, List, map, unsigned_abs}
 use Rattle.pl_stl.specs.declared.mesh.Point3.{Point3}
 use Rattle.pl_stl.specs.declared.mesh.Facet.{Facet}
+use Rattle.pl_stl.specs.Coordinates.{part_x, part_y, coordinates, least, greatest}
 use Rattle.pl_grid.specs.Extent.{Extent}
 
 -- a point after so many quarter turns counterclockwise, from 0 to 3
@@ -18,30 +17,6 @@ turned_facet quarter f = record { a = turned quarter f.a; b = turned quarter f.b
 
 abbrev pub turned_mesh : ℕ → List Facet → List Facet
 turned_mesh quarter mesh = map (turned_facet quarter) mesh
-
--- one coordinate of each corner of each facet
-abbrev pub coordinates : (Point3 → ℤ) → List Facet → List ℤ
-coordinates part mesh = flat_map (λ f. part f.a ∷ part f.b ∷ part f.c ∷ []) mesh
-
--- the least and the greatest number of a list, and 0 where it is empty
-abbrev pub least : List ℤ → ℤ
-least [] = pos 0
-least (z ∷ []) = z
-least (z ∷ y ∷ zs) = int_min z (least (y ∷ zs))
-
-abbrev pub greatest : List ℤ → ℤ
-greatest [] = pos 0
-greatest (z ∷ []) = z
-greatest (z ∷ y ∷ zs) = int_max z (greatest (y ∷ zs))
-
-abbrev pub part_x : Point3 → ℤ
-part_x p = p.x.0
-
-abbrev pub part_y : Point3 → ℤ
-part_y p = p.y.0
-
-abbrev pub part_z : Point3 → ℤ
-part_z p = p.z.0
 
 -- how far the coordinates of a mesh reach
 abbrev pub reach : (Point3 → ℤ) → List Facet → ℕ

@@ -3,7 +3,7 @@
 /// The way from one point to another, in nanometres.
 #[derive(Clone, Copy, Debug, PartialEq, Eq)]
 pub struct Arrow {
-    pub x: i128,
-    pub y: i128,
-    pub z: i128,
+    pub x: i64,
+    pub y: i64,
+    pub z: i64,
 }

@@ -4,10 +4,11 @@ ghost use Rattle.std.specs.Int.{int_div_euclid};
 ghost use Rattle.pl_units.specs.Within.{Within};
 ghost use Rattle.pl_layers.specs.Heights.{AreHeights, z_of, sample, exists_at, layer_count_of, layer_height_of};
 ghost use Rattle.pl_layers.specs.Samples.{sample_of};
-ghost use Rattle.pl_layers.specs.Turned.{reach, part_z};
+ghost use Rattle.pl_layers.specs.Turned.{reach};
+ghost use Rattle.pl_stl.specs.Coordinates.{part_z};
 
-use crate::turned::{Part, reach, span_of};
-use pl_stl::Mesh;
+use crate::turned::reach;
+use pl_stl::{Mesh, Part};
 use pl_units::Nm;
 
 /// The height of the first layer and that of each other layer, each from 20,000 to 1,000,000 nm.
@@ -90,6 +91,6 @@ pub fn layer_count(mesh: &Mesh, heights: Heights) -> u32
     ensures exact { (k : ℕ) → k < result ↔ IsTrue (exists_at heights (reach part_z mesh.now) k) }
     ensures few { result ≤ 100000 }
 {
-    let tall = reach(&span_of(mesh.facets(), 0, Part::Z));
+    let tall = reach(&mesh.span(Part::Z));
     layers_below(size_of(&heights.first), size_of(&heights.height), tall)
 }

@@ -3,12 +3,13 @@ ghost use Rattle.std.specs.Prelude.{◌≡◌, ◌≤◌, ◌<◌, ◌+ℤ◌, �
 ghost use Rattle.std.specs.Int.{int_min, int_max};
 ghost use Rattle.pl_units.specs.Within.{Within};
 ghost use Rattle.pl_grid.specs.Planes.{IsFull};
-ghost use Rattle.pl_layers.specs.Near.{IsClose, IsCloseFacet};
-ghost use Rattle.pl_layers.specs.Rows.{misses_row, steps_below};
+ghost use Rattle.pl_layers.specs.Near.{IsClose, IsCloseFacet, IsShort};
+ghost use Rattle.pl_layers.specs.Rows.{misses_row, normal_of, steps_below};
 ghost use Rattle.pl_layers.specs.Slices.{cell_point};
 ghost use Rattle.pl_layers.specs.Flips.{with_facet_row, with_facet};
 
-use crate::columns::columns_hit;
+use crate::arrow::Arrow;
+use crate::columns::{columns_hit, normal};
 use pl_grid::{Box2, Plane};
 use pl_stl::{Facet, Point3};
 use pl_units::Nm;
@@ -22,7 +23,7 @@ struct Rows {
 
 /// The middle of the cell that lies `count` cells after the one with its middle at `first`.
 fn middle_after(first: &Nm, count: u32) -> Nm
-    requires first { Within (2 ^ 30) first.now.0 }
+    requires first { Within 1001000000 first.now.0 }
     requires count { count < 8192 }
     ensures { result.0 ≡ first.now.0 +ℤ pos 400000 *ℤ pos count }
 {
@@ -60,8 +61,8 @@ fn greatest_y(facet: &Facet) -> Nm
 
 /// How many rows have their middles below `y`, at most `most`, where that of row 0 is at `first`.
 fn rows_below(first: &Nm, y: &Nm, most: u32) -> u32
-    requires first { Within (2 ^ 30) first.now.0 }
-    requires y { Within (2 ^ 30) y.now.0 }
+    requires first { Within 1001000000 first.now.0 }
+    requires y { Within 1001000000 y.now.0 }
     ensures { result ≡ min most (steps_below (y.now.0 -ℤ first.now.0) 400000) }
 {
     let ahead = y.0 - first.0;
@@ -91,7 +92,14 @@ fn rows_across(corner: &Point3, facet: &Facet, most: u32) -> Rows
 }
 
 /// Turns over the cells of a row from which the facet is hit.
-fn flip_row(plane: &mut Plane, bounds: Box2, corner: &Point3, facet: &Facet, row: u32)
+fn flip_row(
+    plane: &mut Plane,
+    bounds: Box2,
+    corner: &Point3,
+    facet: &Facet,
+    normal: &Arrow,
+    row: u32,
+)
     requires bounds { plane.old.bounds ≡ bounds }
     requires origin_x { bounds.x0 ≡ pos 0 }
     requires origin_y { bounds.y0 ≡ pos 0 }
@@ -99,10 +107,12 @@ fn flip_row(plane: &mut Plane, bounds: Box2, corner: &Point3, facet: &Facet, row
     requires corner { IsClose corner.now }
     requires point { IsClose (cell_point corner.now (pos 0) (pos row)) }
     requires facet { IsCloseFacet facet.now }
+    requires normal { normal.now ≡ normal_of facet.now }
+    requires short { IsShort 8016008000000000000 normal.now }
     ensures { plane.new ≡ with_facet_row corner.now facet.now plane.old (pos row) }
 {
     let first = first_point(corner, row);
-    let count = columns_hit(&first, facet, bounds.cols as usize);
+    let count = columns_hit(&first, facet, normal, bounds.cols as usize);
     plane.toggle_row(count as i32, row as i32);
 }
 
@@ -118,7 +128,8 @@ pub(crate) fn flip_facet(plane: &mut Plane, bounds: Box2, corner: &Point3, facet
     ensures { plane.new ≡ with_facet corner.now facet.now plane.old }
 {
     let rows = rows_across(corner, facet, bounds.rows);
+    let normal = normal(facet);
     for row in rows.from..rows.to {
-        flip_row(plane, bounds, corner, facet, row);
+        flip_row(plane, bounds, corner, facet, &normal, row);
     }
 }

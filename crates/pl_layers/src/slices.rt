@@ -11,9 +11,9 @@ ghost use Rattle.pl_layers.specs.Filling.{spans};
 
 use crate::heights::{Heights, sample};
 use crate::rows::flip_facet;
-use crate::turned::{Part, box_over, span_of, turned_facet};
+use crate::turned::{box_over, span_x, span_y, turned_facet};
 use pl_grid::{Box2, Plane};
-use pl_stl::{Facet, Mesh, Point3};
+use pl_stl::{Facet, Mesh, Part, Point3};
 use pl_units::{Nm, NoMemory};
 use std::alloc::Global;
 
@@ -27,18 +27,18 @@ pub(crate) fn sum(a: &Nm, b: &Nm) -> Nm
 }
 
 /// The box of the cells after a turn, and the middle of the cell 0 0 at the height at which layer `k` is sampled.
-fn place(facets: &[Facet], quarter: u8, heights: Heights, k: u32) -> (Box2, Point3)
+fn place(mesh: &Mesh, quarter: u8, heights: Heights, k: u32) -> (Box2, Point3)
     requires quarter { quarter < 4 }
-    requires facets { IsMesh facets.now }
+    requires mesh { IsMesh mesh.now }
     requires heights { AreHeights heights }
-    requires k { k < layer_count_of heights facets.now }
-    ensures bounds { result.0 ≡ box_of quarter facets.now }
-    ensures corner { result.1 ≡ corner_of (turned_mesh quarter facets.now) heights k }
+    requires k { k < layer_count_of heights mesh.now }
+    ensures bounds { result.0 ≡ box_of quarter mesh.now }
+    ensures corner { result.1 ≡ corner_of (turned_mesh quarter mesh.now) heights k }
 {
     let half = Nm(200_000);
-    let x = span_of(facets, quarter, Part::X);
-    let y = span_of(facets, quarter, Part::Y);
-    let z = span_of(facets, quarter, Part::Z);
+    let x = span_x(mesh, quarter);
+    let y = span_y(mesh, quarter);
+    let z = mesh.span(Part::Z);
     let corner = Point3 {
         x: sum(&x.least, &half),
         y: sum(&y.least, &half),
@@ -58,7 +58,7 @@ fn reaches_down(z: &Nm, facet: &Facet) -> bool
 pub(crate) fn stays_down(z: &Nm, facet: &Facet) -> bool
     ensures { result ≡ (int_le facet.now.a.z.0 z.now.0 && int_le facet.now.b.z.0 z.now.0 && int_le facet.now.c.z.0 z.now.0) }
 {
-    facet.a.z.0 <= z.0 && facet.b.z.0 <= z.0 && facet.c.z.0 <= z.0
+    (facet.a.z.0 <= z.0) & (facet.b.z.0 <= z.0) & (facet.c.z.0 <= z.0)
 }
 
 /// Whether the facet has corners at this height or below, and corners above it.
@@ -124,7 +124,7 @@ pub fn slice_layer(
     ensures { IfOk result (λ p. p ≡ slice_of mesh.now quarter heights k) }
 {
     let facets = mesh.facets();
-    let (bounds, corner) = place(facets, quarter, heights, k);
+    let (bounds, corner) = place(mesh, quarter, heights, k);
     let spanning = facets_at(alloc, facets, quarter, &corner.z)?;
     slice_facets(alloc, bounds, &spanning, &corner)
 }

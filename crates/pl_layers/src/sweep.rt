@@ -14,9 +14,9 @@ ghost use Rattle.pl_layers.specs.Sweeps.{begins_by, ends_by, facet_of, IsStart, 
 
 use crate::heights::{Heights, layers_below, sample, size_of};
 use crate::slices::{slice_facets, stays_down, sum};
-use crate::turned::{Part, box_over, lower, span_of, turned_facet};
+use crate::turned::{box_over, lowest, span_x, span_y, turned_facet};
 use pl_grid::{Box2, Plane};
-use pl_stl::{Facet, Mesh, Point3};
+use pl_stl::{Facet, Mesh, Part, Point3};
 use pl_units::{Nm, NoMemory};
 use std::alloc::Global;
 use std::marker::Model;
@@ -63,8 +63,7 @@ fn first_layer(heights: Heights, floor: &Nm, facet: &Facet) -> u32
     requires facet { IsNearFacet facet.now }
     ensures { (k : ℕ) → k < result → begins_by (floor.now.0 +ℤ sample heights k) facet.now ≡ false }
 {
-    let low = lower(&facet.a.z, facet, Part::Z);
-    layers_to(heights, floor, &low)
+    layers_to(heights, floor, &lowest(facet))
 }
 
 /// An entry for each facet, in the order of the mesh.
@@ -204,9 +203,9 @@ impl<'a> Sweep<'a> {
     {
         let facets = mesh.facets();
         let half = Nm(200_000);
-        let x = span_of(facets, quarter, Part::X);
-        let y = span_of(facets, quarter, Part::Y);
-        let z = span_of(facets, quarter, Part::Z);
+        let x = span_x(mesh, quarter);
+        let y = span_y(mesh, quarter);
+        let z = mesh.span(Part::Z);
         let base = Point3 {
             x: sum(&x.least, &half),
             y: sum(&y.least, &half),

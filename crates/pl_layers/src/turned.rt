@@ -1,43 +1,16 @@
 //! A mesh turned by quarters about z, and how far it reaches.
 ghost use Rattle.std.specs.Prelude.{◌≡◌, ◌≤◌, ◌<◌, ◌^◌, neg_ℤ};
-ghost use Rattle.std.specs.Int.{int_min, int_max};
+ghost use Rattle.std.specs.Int.{int_min};
 ghost use Rattle.pl_units.specs.Within.{Within};
-ghost use Rattle.pl_stl.specs.Mesh.{IsNear, IsNearFacet, IsMesh};
-ghost use Rattle.pl_layers.specs.Turned.{turned, turned_facet, turned_mesh, coordinates, least, greatest, cells_across, box_of};
-ghost use Rattle.pl_layers.specs.Parts.{part_of, with_corners};
-ghost use Rattle.pl_layers.specs.Spans.{IsNearSpan, reach_of, box_over};
+ghost use Rattle.pl_stl.specs.Mesh.{IsNear, IsNearFacet};
+ghost use Rattle.pl_layers.specs.Turned.{turned, turned_facet, turned_mesh, cells_across, box_of};
+ghost use Rattle.pl_stl.specs.Coordinates.{part_x, part_y};
+ghost use Rattle.pl_stl.specs.Spans.{IsNearSpan, IsSpan};
+ghost use Rattle.pl_layers.specs.Spans.{reach_of, box_over};
 
 use pl_grid::Box2;
-use pl_stl::{Facet, Mesh, Point3};
+use pl_stl::{Facet, Mesh, Part, Point3, Span};
 use pl_units::Nm;
-
-/// One of the three coordinates of a point.
-#[derive(Clone, Copy, Debug, PartialEq, Eq)]
-pub(crate) enum Part {
-    X,
-    Y,
-    Z,
-}
-
-/// The least and the greatest of one coordinate, in nanometres.
-#[derive(Clone, Copy, Debug, PartialEq, Eq)]
-pub(crate) struct Span {
-    pub least: Nm,
-    pub greatest: Nm,
-}
-
-/// One coordinate of a point.
-fn part_of(p: &Point3, which: Part) -> Nm
-    requires { IsNear p.now }
-    ensures value { result.0 ≡ part_of which p.now }
-    ensures near { Within (10 ^ 9) result.0 }
-{
-    match which {
-        Part::X => p.x,
-        Part::Y => p.y,
-        Part::Z => p.z,
-    }
-}
 
 fn opposite(length: &Nm) -> Nm
     requires { Within (10 ^ 9) length.now.0 }
@@ -97,70 +70,52 @@ fn lesser(a: &Nm, b: &Nm) -> Nm
     if b.0 < a.0 { *b } else { *a }
 }
 
-fn larger(a: &Nm, b: &Nm) -> Nm
-    requires a { Within (10 ^ 9) a.now.0 }
-    requires b { Within (10 ^ 9) b.now.0 }
-    ensures value { result.0 ≡ int_max a.now.0 b.now.0 }
+/// The least height of a facet's corners.
+pub(crate) fn lowest(facet: &Facet) -> Nm
+    requires { IsNearFacet facet.now }
+    ensures value { result.0 ≡ int_min (int_min facet.now.a.z.0 facet.now.b.z.0) facet.now.c.z.0 }
     ensures near { Within (10 ^ 9) result.0 }
 {
-    if a.0 < b.0 { *b } else { *a }
+    lesser(&lesser(&facet.a.z, &facet.b.z), &facet.c.z)
 }
 
-/// The least of a number and one coordinate of each corner.
-pub(crate) fn lower(low: &Nm, facet: &Facet, which: Part) -> Nm
-    requires low { Within (10 ^ 9) low.now.0 }
-    requires facet { IsNearFacet facet.now }
-    ensures value { result.0 ≡ with_corners int_min (part_of which) facet.now low.now.0 }
-    ensures near { Within (10 ^ 9) result.0 }
-{
-    let first = lesser(low, &part_of(&facet.a, which));
-    let second = lesser(&first, &part_of(&facet.b, which));
-    lesser(&second, &part_of(&facet.c, which))
-}
-
-/// The greatest of a number and one coordinate of each corner.
-fn upper(high: &Nm, facet: &Facet, which: Part) -> Nm
-    requires high { Within (10 ^ 9) high.now.0 }
-    requires facet { IsNearFacet facet.now }
-    ensures value { result.0 ≡ with_corners int_max (part_of which) facet.now high.now.0 }
-    ensures near { Within (10 ^ 9) result.0 }
-{
-    let first = larger(high, &part_of(&facet.a, which));
-    let second = larger(&first, &part_of(&facet.b, which));
-    larger(&second, &part_of(&facet.c, which))
-}
-
-/// The span of a mesh with one facet more.
-fn widened(span: &Span, facet: &Facet, which: Part) -> Span
-    requires span { IsNearSpan span.now }
-    requires facet { IsNearFacet facet.now }
-    ensures least { result.least.0 ≡ with_corners int_min (part_of which) facet.now span.now.least.0 }
-    ensures greatest { result.greatest.0 ≡ with_corners int_max (part_of which) facet.now span.now.greatest.0 }
+// The span of the opposites of the numbers of a span.
+fn opposite_span(span: &Span) -> Span
+    requires { IsNearSpan span.now }
+    ensures least { result.least.0 ≡ neg_ℤ span.now.greatest.0 }
+    ensures greatest { result.greatest.0 ≡ neg_ℤ span.now.least.0 }
     ensures near { IsNearSpan result }
 {
     Span {
-        least: lower(&span.least, facet, which),
-        greatest: upper(&span.greatest, facet, which),
+        least: opposite(&span.greatest),
+        greatest: opposite(&span.least),
     }
 }
 
-/// The span of one coordinate of a turned mesh.
-pub(crate) fn span_of(facets: &[Facet], quarter: u8, which: Part) -> Span
-    requires quarter { quarter < 4 }
-    requires facets { IsMesh facets.now }
-    ensures least { result.least.0 ≡ least (coordinates (part_of which) (turned_mesh quarter facets.now)) }
-    ensures greatest { result.greatest.0 ≡ greatest (coordinates (part_of which) (turned_mesh quarter facets.now)) }
-    ensures near { IsNearSpan result }
+/// How far a mesh reaches along x after so many quarter turns.
+pub(crate) fn span_x(mesh: &Mesh, quarter: u8) -> Span
+    requires { quarter < 4 }
+    ensures { IsSpan part_x (turned_mesh quarter mesh.now) result }
 {
-    let first = part_of(&turned(&facets[0].a, quarter), which);
-    let mut span = Span {
-        least: first,
-        greatest: first,
-    };
-    for facet in facets {
-        span = widened(&span, &turned_facet(facet, quarter), which);
+    match quarter {
+        0 => mesh.span(Part::X),
+        1 => opposite_span(&mesh.span(Part::Y)),
+        2 => opposite_span(&mesh.span(Part::X)),
+        _ => mesh.span(Part::Y),
     }
-    span
+}
+
+/// How far a mesh reaches along y after so many quarter turns.
+pub(crate) fn span_y(mesh: &Mesh, quarter: u8) -> Span
+    requires { quarter < 4 }
+    ensures { IsSpan part_y (turned_mesh quarter mesh.now) result }
+{
+    match quarter {
+        0 => mesh.span(Part::Y),
+        1 => mesh.span(Part::X),
+        2 => opposite_span(&mesh.span(Part::Y)),
+        _ => opposite_span(&mesh.span(Part::X)),
+    }
 }
 
 /// How far a span reaches, in nanometres.
@@ -200,8 +155,5 @@ pub fn cells(mesh: &Mesh, quarter: u8) -> Box2
     requires { quarter < 4 }
     ensures { result ≡ box_of quarter mesh.now }
 {
-    let facets = mesh.facets();
-    let x = span_of(facets, quarter, Part::X);
-    let y = span_of(facets, quarter, Part::Y);
-    box_over(&x, &y)
+    box_over(&span_x(mesh, quarter), &span_y(mesh, quarter))
 }

@@ -11,7 +11,8 @@ use Rattle.pl_stl.specs.Mesh.{IsMesh}
 use Rattle.pl_stl.specs.declared.mesh.Facet.{Facet}
 use Rattle.pl_layers.specs.declared.heights.Heights.{Heights}
 use Rattle.pl_layers.specs.Heights.{AreHeights, layer_count_of, z_of}
-use Rattle.pl_layers.specs.Turned.{reach, part_z}
+use Rattle.pl_layers.specs.Turned.{reach}
+use Rattle.pl_stl.specs.Coordinates.{part_z}
 use Rattle.pl_layers.proofs.Samples.{IsSampled}
 use Rattle.pl_layers.proofs.Extremes.{IsReached, IsReached-from_near}
 use Rattle.pl_layers.proofs.Points.{layer_sampled}

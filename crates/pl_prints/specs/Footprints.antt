@@ -37,7 +37,7 @@ pub record IsPlaced (f : Footprint) (shift : Shift) : Type 0 where
   pub left : pos 0 ≤ℤ cell_of shift.x
   pub right : cell_of shift.x ≤ℤ pos 625
   pub bottom : pos 0 ≤ℤ cell_of shift.y
-  pub top : cell_of shift.y ≤ℤ pos 625
+  pub top : cell_of shift.y ≤ℤ pos 525
   pub slice : IsRoomFor f.slice (cell_of shift.x) (cell_of shift.y) bed
   pub support : IsRoomFor f.support (cell_of shift.x) (cell_of shift.y) bed
 

@@ -5,3 +5,4 @@ pub mod Law
 pub mod Once
 pub mod Near
 pub mod PlainLengths
+pub mod Extremes

@@ -4,3 +4,5 @@ pub mod Form
 pub mod Grammar
 pub mod Reading
 pub mod Reader
+pub mod Coordinates
+pub mod Spans

@@ -1,16 +1,15 @@
 use Rattle.std.proofs.Common.{◌∙◌}
-use Rattle.pl_layers.specs.Turned.{turned_mesh, part_x, part_y}
-use Rattle.pl_layers.proofs.Points.{layer_sampled, sample_near, reach_is, box_is}
+use Rattle.pl_layers.proofs.Points.{layer_sampled, sample_near, box_is, corner_is}
 use Rattle.pl_layers.proofs.slices.place.Goals as goal
 
 pub sample-requires-clause-k : goal.sample-requires-clause-k
-sample-requires-clause-k c = (layer_sampled c.args.heights c.args.facets.now c.args.k c.requires.facets c.requires.heights c.requires.k).few
+sample-requires-clause-k c = (layer_sampled c.args.heights c.args.mesh.now c.args.k c.requires.mesh c.requires.heights c.requires.k).few
 
 pub sum-requires-3-clause-b : goal.sum-requires-3-clause-b
-sum-requires-3-clause-b c = sample_near c.args.heights c.args.facets.now c.args.k c.sample.result.0 c.requires.facets c.requires.heights c.requires.k c.sample.ensures
+sum-requires-3-clause-b c = sample_near c.args.heights c.args.mesh.now c.args.k c.sample.result.0 c.requires.mesh c.requires.heights c.requires.k c.sample.ensures
 
 pub returns-clause-bounds : goal.returns-clause-bounds
-returns-clause-bounds c = c.box_over.ensures
-    ∙ box_is c.span_of-x.result c.span_of-y.result c.args.quarter c.args.facets.now
-    (reach_is c.span_of-x.result part_x (turned_mesh c.args.quarter c.args.facets.now) c.span_of-x.ensures.least c.span_of-x.ensures.greatest)
-    (reach_is c.span_of-y.result part_y (turned_mesh c.args.quarter c.args.facets.now) c.span_of-y.ensures.least c.span_of-y.ensures.greatest)
+returns-clause-bounds c = c.box_over.ensures ∙ box_is c.span_x-x.result c.span_y-y.result c.args.quarter c.args.mesh.now c.span_x-x.ensures c.span_y-y.ensures
+
+pub returns-clause-corner : goal.returns-clause-corner
+returns-clause-corner c = corner_is c.args.quarter c.args.mesh.now c.args.heights c.args.k c.span_x-x.result c.span_y-y.result c.span-z.result c.sample.result.0 _ c.span_x-x.ensures c.span_y-y.ensures c.span-z.ensures c.sum.ensures c.sum-2.ensures c.sum-3.ensures c.sample.ensures
