@@ -1,10 +1,21 @@
 -- The texts of paths, part by part.
-use Rattle.std.proofs.Common.{◌≡◌, ◌+◌, ◌-◌, ◌<◌, ◌≤◌, ℕ, List, [], ◌∷◌, ◌++◌, length, take, drop, map, ap, sym, ◌∙◌, get_or, arith, length-drop}
+use Rattle.std.proofs.Common.{◌≡◌, ◌+◌, ◌-◌, ◌<◌, ◌≤◌, ℕ, List, [], ◌∷◌, ◌++◌, length, take, drop, map, ap, sym, ◌∙◌, get_or, arith, append_assoc, length-drop}
 use Rattle.std.proofs.lemmas.List.{append-nil, drop_more, drop_all, take_all}
 use Rattle.pl_grid.specs.declared.stroke.Corner.{Corner}
 use Rattle.pl_grid.specs.declared.stroke.Stroke.{Stroke}
 use Rattle.pl_gcode.specs.Print.{Settings}
 use Rattle.pl_gcode.specs.Paths.{Spot, Pace, start_lines, extrude, extrude_along, shifted, start_of, end_of, stroke_path, shifted_corner, loop_path}
+
+-- pieces that were put in front of one another: a point, a move with extrusion, and a move with the feed after it
+pub spot_pieces : (first x between y rest : List ℕ) → first ++ (x ++ (between ++ (y ++ rest))) ≡ (first ++ x ++ between ++ y) ++ rest
+spot_pieces first x between y rest = simp append_assoc
+
+pub extrude_pieces : (spot sign amount end : List ℕ) → spot ++ (sign ++ (amount ++ end)) ≡ (spot ++ sign ++ amount) ++ end
+extrude_pieces spot sign amount end = simp append_assoc
+
+pub start_pieces : (spot space sign travel end move feed : List ℕ) →
+    spot ++ (space ++ (sign ++ (travel ++ (end ++ (move ++ (sign ++ (feed ++ end))))))) ≡ ((spot ++ space ++ (sign ++ travel)) ++ end) ++ ((move ++ (sign ++ feed)) ++ end)
+start_pieces spot space sign travel end move feed = simp append_assoc
 
 pub stroke_first : (s : Settings) (pace : Pace) (by : Corner) (k : Stroke) (start : Spot) → start ≡ shifted by (start_of k) → stroke_path s pace by k ≡ start_lines s pace start ++ extrude_along s pace start (shifted by (end_of k) ∷ [])
 stroke_first s pace by k start e = ap (λ a. start_lines s pace a ++ extrude_along s pace a (shifted by (end_of k) ∷ [])) (sym e)

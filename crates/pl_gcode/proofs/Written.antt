@@ -2,7 +2,7 @@
 use Rattle.std.proofs.Common.{◌≡◌, ◌+◌, ◌<◌, ◌≤◌, ℕ, List, [], ◌++◌, length, drop, refl, ap, subst, sym, ◌∙◌, append_assoc, get_or}
 use Rattle.std.proofs.lemmas.List.{append-nil, drop_more, drop_all}
 use Rattle.std.specs.List.{flat_map, enumerate_from}
-use Rattle.std.specs.Prelude.{Result, Ok, Err}
+use Rattle.std.specs.Prelude.{Result, Ok, Err, OnOk, OnErr}
 use Rattle.pl_units.specs.Writes.{EndsWithFront, Writes}
 
 -- of the whole text all but the rest has been appended
@@ -48,6 +48,11 @@ written_last start out whole rest new part (Err x) w p e = written_stopped start
 -- a text that was appended is an equal one
 pub writes_as : {T E : Type 0} (old new : List ℕ) (result : Result T E) (text other : List ℕ) → Writes old new result text → text ≡ other → Writes old new result other
 writes_as old new result text other w e = subst (λ (l : List ℕ). Writes old new result l) e w
+
+-- a text that is appended at once: all of it, or nothing
+pub writes_whole : {T E : Type 0} (old new : List ℕ) (result : Result T E) (text other : List ℕ) → OnOk result (new ≡ old ++ text) → OnErr result (new ≡ old) → text ≡ other → Writes old new result other
+writes_whole old new (Ok x) text other all none e = all ∙ ap (λ l. old ++ l) e
+writes_whole old new (Err x) text other all none e = ([], other, none ∙ sym (append-nil old), refl)
 
 -- the texts of what is left of a list
 pub flat_map_next : {X : Type 0} (f : X → List ℕ) (xs : List X) (i : ℕ) (d : X) → i < length xs → flat_map f (drop i xs) ≡ f (get_or xs i d) ++ flat_map f (drop (i + 1) xs)

@@ -1,5 +1,5 @@
 //! How a path is printed.
-ghost use Rattle.std.specs.Prelude.{◌≡◌, ◌≤◌, ◌*◌, pos, unsigned_abs};
+ghost use Rattle.std.specs.Prelude.{◌≡◌, ◌≤◌, ◌+◌, ◌*◌, ◌++◌, length, pos, unsigned_abs};
 ghost use Rattle.std.specs.Fmt.{decimal};
 ghost use Rattle.pl_gcode.specs.Gcode.{perimeter_pace, infill_pace, ironing_pace};
 ghost use Rattle.pl_gcode.specs.IsPrint.{IsTrack};
@@ -8,7 +8,7 @@ ghost use Rattle.pl_gcode.specs.Paths.{amount};
 use crate::filament::extrusion;
 use crate::settings::Settings;
 use crate::spot::Spot;
-use pl_units::{Digits, Nm};
+use pl_units::{Line, Nm};
 use std::marker::Model;
 
 /// The feed in mm per second, the height of the track, and the percent of the extrusion.
@@ -45,11 +45,13 @@ impl Pace {
         }
     }
 
-    /// The feed, in mm per minute.
-    pub(crate) fn feed(&self) -> Digits
-        ensures { result ≡ decimal (self.now.speed * 60) }
+    /// Puts the feed, in mm per minute, in front of the rest of its line.
+    pub(crate) fn put_feed(&self, line: &mut Line)
+        requires { length line.old ≤ 108 }
+        ensures text { line.new ≡ decimal (self.now.speed * 60) ++ line.old }
+        ensures size { length line.new ≤ length line.old + 20 }
     {
-        Digits::whole(u64::from(self.speed) * 60)
+        line.put_whole(u64::from(self.speed) * 60);
     }
 
     // The filament of a way of up to 2^53 nm, in 0.00001 mm.

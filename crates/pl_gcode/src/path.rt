@@ -8,30 +8,20 @@ use crate::pace::Pace;
 use crate::settings::Settings;
 use crate::spot::Spot;
 use pl_grid::{Corner, Loop, Stroke};
-use pl_units::{Digits, NoMemory, Text, append_pieces};
+use pl_units::{Line, NoMemory, Text};
 
 // Appends the move to a path's first point, and its feed.
 fn put_start(out: &mut Text, settings: &Settings, pace: &Pace, at: &Spot) -> Result<(), NoMemory>
     ensures { Writes out.old out.new result (start_lines settings.now pace.now at.now) }
 {
-    let x = at.x_text();
-    let y = at.y_text();
-    let travel = settings.travel_feed();
-    let feed = pace.feed();
-    append_pieces(
-        out,
-        &[
-            b"G1 X",
-            x.bytes(),
-            b" Y",
-            y.bytes(),
-            b" F",
-            travel.bytes(),
-            b"\nG1 F",
-            feed.bytes(),
-            b"\n",
-        ],
-    )
+    let mut line = Line::empty();
+    line.put(b"\n");
+    pace.put_feed(&mut line);
+    line.put(b"\nG1 F");
+    settings.put_travel_feed(&mut line);
+    line.put(b" F");
+    at.put(&mut line);
+    out.append(line.bytes())
 }
 
 // Appends a move with extrusion.
@@ -44,21 +34,12 @@ fn put_extrude(
 ) -> Result<(), NoMemory>
     ensures { Writes out.old out.new result (extrude settings.now pace.now from.now to.now) }
 {
-    let x = to.x_text();
-    let y = to.y_text();
-    let amount = Digits::fixed(pace.amount(settings, from, to), 5);
-    append_pieces(
-        out,
-        &[
-            b"G1 X",
-            x.bytes(),
-            b" Y",
-            y.bytes(),
-            b" E",
-            amount.bytes(),
-            b"\n",
-        ],
-    )
+    let mut line = Line::empty();
+    line.put(b"\n");
+    line.put_fixed(pace.amount(settings, from, to), 5);
+    line.put(b" E");
+    to.put(&mut line);
+    out.append(line.bytes())
 }
 
 // Appends the path of a stroke, moved by whole cells.

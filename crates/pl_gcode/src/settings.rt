@@ -1,5 +1,5 @@
 //! The settings that the text speaks of.
-ghost use Rattle.std.specs.Prelude.{◌≡◌, ◌≤◌, ◌*◌, ◌≤ℤ◌, pos, true, IsTrue};
+ghost use Rattle.std.specs.Prelude.{◌≡◌, ◌≤◌, ◌+◌, ◌*◌, ◌++◌, length, ◌≤ℤ◌, pos, true, IsTrue};
 ghost use Rattle.std.specs.FinMap as map;
 ghost use Rattle.std.specs.Fmt.{decimal};
 ghost use Rattle.pl_keys.specs.declared.key.Kind.TheVariants as kinds;
@@ -11,7 +11,7 @@ ghost use Rattle.pl_gcode.specs.SettingsOf.{settings_of, whole_in, length_in, wo
 
 use crate::pace::Pace;
 use pl_options::{Config, Key, Value};
-use pl_units::{Digits, Nm};
+use pl_units::{Digits, Line, Nm};
 use std::marker::Model;
 
 /// Speeds in mm per second, temperatures in degrees, the multiplier in hundredths, each in the range of its option.
@@ -104,6 +104,15 @@ impl<'a> Settings<'a> {
         ensures { result ≡ decimal (self.now.travel_speed * 60) }
     {
         Digits::whole(u64::from(self.travel_speed) * 60)
+    }
+
+    /// Puts the feed of moves without extrusion, in mm per minute, in front of the rest of its line.
+    pub(crate) fn put_travel_feed(&self, line: &mut Line)
+        requires { length line.old ≤ 108 }
+        ensures text { line.new ≡ decimal (self.now.travel_speed * 60) ++ line.old }
+        ensures size { length line.new ≤ length line.old + 20 }
+    {
+        line.put_whole(u64::from(self.travel_speed) * 60);
     }
 
     /// The pace of perimeters in a track of a height.

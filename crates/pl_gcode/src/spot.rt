@@ -1,11 +1,10 @@
 //! Points of the bed.
-ghost use Rattle.std.specs.Prelude.{◌≡◌, ◌≤◌, ◌^◌, ◌+ℤ◌, ◌*ℤ◌, ◌-ℤ◌, pos, unsigned_abs};
-ghost use Rattle.pl_units.specs.Decimal.{fixed};
+ghost use Rattle.std.specs.Prelude.{◌≡◌, ◌≤◌, ◌^◌, ◌++◌, length, ◌+ℤ◌, ◌*ℤ◌, ◌-ℤ◌, pos, unsigned_abs};
 ghost use Rattle.pl_units.specs.Within.{Within};
-ghost use Rattle.pl_gcode.specs.Paths.{shifted, shifted_corner, spot_of, start_of, end_of, distance};
+ghost use Rattle.pl_gcode.specs.Paths.{shifted, shifted_corner, spot_of, start_of, end_of, distance, spot_text};
 
 use pl_grid::{Corner, Stroke};
-use pl_units::Digits;
+use pl_units::Line;
 use std::marker::Model;
 
 /// A point of the bed, in half cells of 200,000 nm: a corner or an end of a stroke, moved by whole cells.
@@ -52,12 +51,12 @@ fn apart(from: &i64, to: &i64) -> u64
     (*to - *from).unsigned_abs()
 }
 
-// The text of a coordinate, in millimetres.
-fn millimetres(at: &i64) -> Digits
+// A coordinate in micrometres.
+fn micrometres(at: &i64) -> i64
     requires { Within (2 ^ 33) at.now }
-    ensures { result ≡ fixed (pos 200 *ℤ at.now) 3 }
+    ensures { result ≡ pos 200 *ℤ at.now }
 {
-    Digits::fixed(200 * *at, 3)
+    200 * *at
 }
 
 impl Spot {
@@ -91,18 +90,15 @@ impl Spot {
         }
     }
 
-    /// The text of the column, in millimetres.
-    pub(crate) fn x_text(&self) -> Digits
-        ensures { result ≡ fixed (pos 200 *ℤ self.now.x) 3 }
+    /// Puts the words of a move to the point in front of the rest of its line.
+    pub(crate) fn put(&self, line: &mut Line)
+        requires { length line.old ≤ 60 }
+        ensures { line.new ≡ spot_text self.now ++ line.old }
     {
-        millimetres(&self.x)
-    }
-
-    /// The text of the row, in millimetres.
-    pub(crate) fn y_text(&self) -> Digits
-        ensures { result ≡ fixed (pos 200 *ℤ self.now.y) 3 }
-    {
-        millimetres(&self.y)
+        line.put_fixed(micrometres(&self.y), 3);
+        line.put(b" Y");
+        line.put_fixed(micrometres(&self.x), 3);
+        line.put(b"G1 X");
     }
 
     /// How far the other point is, along x and along y together, in nanometres.

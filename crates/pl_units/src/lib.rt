@@ -2,6 +2,7 @@
 #![tactic(auto)]
 
 pub mod decimal;
+pub mod line;
 pub mod numeral;
 pub mod pieces;
 mod scaled;
@@ -11,6 +12,7 @@ mod tests;
 pub mod text;
 
 pub use decimal::{floor_div, put_fixed, put_number, to_micro};
+pub use line::Line;
 pub use numeral::{NumberFault, read_mm};
 pub use pieces::{Digits, append_pieces};
 pub use shared::Shared;

@@ -1,11 +1,12 @@
 //! Texts that are appended piece by piece.
-ghost use Rattle.std.specs.Prelude.{◌≡◌, ◌≤◌, ℕ, List, take, map};
+ghost use Rattle.std.specs.Prelude.{◌≡◌, ◌≤◌, ℕ, List, drop, take, map};
 ghost use Rattle.std.specs.List.{concat};
 ghost use Rattle.std.specs.Fmt.{decimal};
 ghost use Rattle.pl_units.specs.Decimal.{fixed};
 ghost use Rattle.pl_units.specs.Writes.{Writes};
 
-use crate::{NoMemory, Text, put_fixed, put_number};
+use crate::decimal::{put_before, put_number_before};
+use crate::{NoMemory, Text};
 use std::marker::Model;
 
 /// Appends pieces one after another. After an error a front of them was appended.
@@ -22,15 +23,15 @@ pub fn append_pieces(out: &mut Text, pieces: &[&[u8]]) -> Result<(), NoMemory>
 #[derive(Drop)]
 pub struct Digits {
     bytes: [u8; 40],
-    len: usize,
+    start: usize,
 }
 
 impl Model for Digits {
     ghost Value = { List ℕ };
 
-    ghost view = { λ d. take d.len d.bytes };
+    ghost view = { λ d. drop d.start d.bytes };
 
-    ghost invariant = { λ d. d.len ≤ 40 };
+    ghost invariant = { λ d. d.start ≤ 40 };
 }
 
 impl Digits {
@@ -41,8 +42,8 @@ impl Digits {
         ensures { result ≡ fixed value places }
     {
         let mut bytes = [0; 40];
-        let len = put_fixed(value, places, &mut bytes);
-        Digits { bytes, len }
+        let start = put_before(value, places, &mut bytes, 40);
+        Digits { bytes, start }
     }
 
     /// The text of a whole number.
@@ -50,14 +51,14 @@ impl Digits {
         ensures { result ≡ decimal value }
     {
         let mut bytes = [0; 40];
-        let len = put_number(value, &mut bytes);
-        Digits { bytes, len }
+        let start = put_number_before(value, &mut bytes, 40);
+        Digits { bytes, start }
     }
 
     /// The digits, with their sign and their point.
     pub fn bytes(&self) -> &[u8]
         ensures { result.now ≡ self.now }
     {
-        &self.bytes[..self.len]
+        &self.bytes[self.start..]
     }
 }

@@ -1,10 +1,12 @@
-use Rattle.std.proofs.Common.{◌+◌, ◌-◌, ◌%◌, ◌/◌, take, arith, ◌∙◌, sym, ap, ◌++◌, ◌∷◌, [], append_assoc}
-use Rattle.pl_units.proofs.DecimalTexts.{put_one, last_digits_step}
-use Rattle.pl_units.specs.Decimal.{last_digits}
+use Rattle.std.proofs.Common.{◌≡◌, ◌≤◌, ◌-◌, ◌∙◌, arith, ap, drop}
+use Rattle.pl_units.proofs.DecimalTexts.{places_more, rest_more}
 use Rattle.pl_units.proofs.decimal.+put_places.Goals as goal
 
-pub returns-then-places-gt0 : goal.returns-then-places-gt0
-returns-then-places-gt0 t c =
-    put_one c.put_places.new.out _ (c.args.at + (c.args.places - 1)) (c.args.at + c.args.places - 1) (c.args.at + c.args.places) _ (omega arith) (omega arith) (omega arith) c.put_places.ensures
-    ∙ append_assoc (take c.args.at c.args.out.now) (last_digits (c.args.places - 1) (c.args.number / 10)) ((48 + c.args.number % 10) ∷ [])
-    ∙ ap (λ l. take c.args.at c.args.out.now ++ l) (sym (last_digits_step c.args.places c.args.number c.if-places-gt0.true))
+pub returns-clause-rest : goal.returns-clause-rest
+returns-clause-rest t c = c.put_places.ensures.rest ∙ rest_more c.args.places c.args.number (omega (arith, c.if-places-eq0.false))
+
+pub returns-clause-text : goal.returns-clause-text
+returns-clause-text t c =
+    let some : 1 ≤ c.args.places = omega (arith, c.if-places-eq0.false) in
+    let at : c.args.end - c.args.places ≡ c.args.end - 1 - (c.args.places - 1) = omega (arith, some, c.requires.room) in
+    ap (λ i. drop i c.put_places.new.out) at ∙ c.put_places.ensures.text ∙ places_more c.args.out.now c.args.number c.args.places c.args.end some (omega (arith, some, c.requires.room)) c.requires.place

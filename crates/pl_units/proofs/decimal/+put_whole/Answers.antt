@@ -1,33 +1,35 @@
-use Rattle.std.proofs.Common.{◌+◌, ◌%◌, ◌/◌, ◌∷◌, [], length, arith, ap, length-append, refl}
-use Rattle.std.specs.Fmt.{decimal}
-use Rattle.std.proofs.lemmas.Fmt.{decimal_step, decimal_digit}
+use Rattle.std.proofs.Common.{rules, ◌≤◌, ◌∙◌, arith, ap, length}
+use Rattle.std.proofs.lemmas.Fmt.{decimal_nonempty, decimal_digit}
 use Rattle.pl_units.proofs.DecimalTexts.{tenth_room, whole_more, whole_one}
 use Rattle.pl_units.proofs.decimal.+put_whole.Goals as goal
-use Rattle.pl_units.proofs.decimal.+put_whole.Goals.{then-number-ge10, else-number-ge10}
+
+pub overflow_sub-out : goal.overflow_sub-out
+overflow_sub-out t c = omega (arith, decimal_nonempty c.args.number c.ranges.number.fits, c.requires.room)
 
 pub bounds-out-end : goal.bounds-out-end
-bounds-out-end t c =
-    elim c.if-number-ge10.branch [
-      | then-number-ge10 w ↦ omega (arith, tenth_room c.args.number c.ranges.number.fits, w.put_whole-end.ensures.end)
-      | else-number-ge10 w ↦ omega arith
-    ]
+bounds-out-end t c = omega (arith, decimal_nonempty c.args.number c.ranges.number.fits, c.requires.room, c.requires.place)
 
-pub returns-clause-end : goal.returns-clause-end
-returns-clause-end t c =
-    elim c.if-number-ge10.branch [
-      | then-number-ge10 w ↦
-          let step = decimal_step c.args.number w.if-number-ge10.true c.ranges.number.fits in
-          omega (arith, w.put_whole-end.ensures.end, ap length step, length-append (decimal (c.args.number / 10)) ((48 + c.args.number % 10) ∷ []))
-      | else-number-ge10 w ↦ omega (arith, ap length (decimal_digit c.args.number w.if-number-ge10.false))
-    ]
+pub overflow_sub-end : goal.overflow_sub-end
+overflow_sub-end t c = omega (arith, decimal_nonempty c.args.number c.ranges.number.fits, c.requires.room)
 
-pub returns-clause-text : goal.returns-clause-text
-returns-clause-text t c =
-    elim c.if-number-ge10.branch [
-      | then-number-ge10 w ↦
-          whole_more c.if-number-ge10.out _ c.args.number c.if-number-ge10.end w.if-number-ge10.true c.ranges.number.fits
-          (omega (arith, tenth_room c.args.number c.ranges.number.fits, w.put_whole-end.ensures.end))
-          (rw (w.out-is, w.end-is) w.put_whole-end.ensures.text)
-      | else-number-ge10 w ↦
-          whole_one c.if-number-ge10.out _ c.args.number c.if-number-ge10.end w.if-number-ge10.false (omega arith) (rw (w.out-is, w.end-is) refl)
-    ]
+pub put_whole-requires : goal.put_whole-requires
+put_whole-requires t c = (search rules, (search rules, omega (arith, tenth_room c.args.number c.if-number-ge10.true c.ranges.number.fits, c.requires.room)))
+
+pub overflow_sub-result : goal.overflow_sub-result
+overflow_sub-result t c = omega (arith, decimal_nonempty c.args.number c.ranges.number.fits, c.requires.room)
+
+pub returns-then-number-ge10-clause-start : goal.returns-then-number-ge10-clause-start
+returns-then-number-ge10-clause-start t c = omega (arith, tenth_room c.args.number c.if-number-ge10.true c.ranges.number.fits, c.requires.room, c.put_whole.ensures.start)
+
+pub returns-then-number-ge10-clause-text : goal.returns-then-number-ge10-clause-text
+returns-then-number-ge10-clause-text t c =
+    let some : 1 ≤ c.args.end = omega (arith, decimal_nonempty c.args.number c.ranges.number.fits, c.requires.room) in
+    c.put_whole.ensures.text ∙ whole_more c.args.out.now c.args.number c.args.end c.if-number-ge10.true c.ranges.number.fits some c.requires.place
+
+pub returns-else-number-ge10-clause-start : goal.returns-else-number-ge10-clause-start
+returns-else-number-ge10-clause-start t c = omega (arith, ap length (decimal_digit c.args.number c.if-number-ge10.false), c.requires.room)
+
+pub returns-else-number-ge10-clause-text : goal.returns-else-number-ge10-clause-text
+returns-else-number-ge10-clause-text t c =
+    let some : 1 ≤ c.args.end = omega (arith, decimal_nonempty c.args.number c.ranges.number.fits, c.requires.room) in
+    whole_one c.args.out.now c.args.number c.args.end c.if-number-ge10.false some c.requires.place
