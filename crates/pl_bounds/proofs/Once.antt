@@ -1,6 +1,5 @@
 -- How often a slot is started, and how high its epoch gets.
 use Rattle.std.proofs.Common.{◌≡◌, ◌≢◌, ℕ, ◌+◌, ◌*◌, ◌<◌, ◌≤◌, ◌&&◌, ◌⊎◌, eqb, inl, inr, Bool, true, false, cond, List, [], ◌∷◌, length, refl, ap, subst, ◌∙◌, arith}
-use Rattle.std.specs.List.{count_by}
 use Rattle.std.proofs.lemmas.List.Sums.{sum_by-cons}
 use Rattle.std.proofs.lemmas.List.{get_or-replicate}
 use Rattle.std.proofs.Math.ListN.{get_or-eq_default}
@@ -16,15 +15,11 @@ use Rattle.pl_machine.proofs.Sound.{coherent-blank}
 use Rattle.pl_machine.proofs.Coherence.{coherent_history}
 use Rattle.pl_session.specs.Complete.{EachEntry}
 use Rattle.pl_bounds.specs.Counts.{is_start_at, is_change, starts_at, changes_in, RisesByChange}
-use Rattle.pl_bounds.proofs.Slots.{is_start_of, Does, by_change, no_start_at, still_coherent, step_does}
+use Rattle.pl_bounds.proofs.Slots.{Does, by_change, no_start_at, still_coherent, step_does}
 
 at_most : (b : Bool) → cond b 1 0 ≤ ◌+◌ 1 0
 at_most true = omega arith
 at_most false = omega arith
-
--- what a test counts
-same_count : (b c : Bool) → b ≡ c → cond b 1 0 ≡ ◌+◌ (cond c 1 0) 0
-same_count b c is = ap (λ v. cond v 1 0) is ∙ omega arith
 
 pub no_count : (b : Bool) → b ≡ false → cond b 1 0 ≡ ◌+◌ 0 0
 no_count b is = ap (λ v. cond v 1 0) is
@@ -69,13 +64,6 @@ module _ {T P E R O J B : Type 0} where
 
   pub changes_more : (e : Entry T P E R O J B) (es : List (Entry T P E R O J B)) → changes_in (e ∷ es) ≡ cond (is_change e.what) 1 0 + changes_in es
   changes_more e es = sum_by-cons (λ x. cond (is_change x.what) 1 0) e es
-
-  -- how often the slot is started, at whatever epochs
-  abbrev pub starts_of : ℕ → List (Entry T P E R O J B) → ℕ
-  starts_of slot history = count_by (λ e. is_start_of slot e.what) history
-
-  starts_of_more : (slot : ℕ) (e : Entry T P E R O J B) (es : List (Entry T P E R O J B)) → starts_of slot (e ∷ es) ≡ cond (is_start_of slot e.what) 1 0 + starts_of slot es
-  starts_of_more slot e es = sum_by-cons (λ x. cond (is_start_of slot x.what) 1 0) e es
 
   module _ (m : Meaning P E R O) (laws : IsLawful m) where
     -- how a step moves the stage, and what it counts
@@ -169,38 +157,3 @@ module _ {T P E R O J B : Type 0} where
           | inl same ↦ inl (there ∙ same)
           | inr up ↦ inr (up.0, there ∙ up.1)
         ]
-
-    -- each start of the slot follows a rise of its epoch, but the first
-    pub starts_from : (st : Machine P) (es : List (Entry T P E R O J B)) (slot : ℕ) → IsCoherent m st → IsRunFrom m st es
-        → starts_of slot es + epoch_of st slot + cond (is_invalid (mode_of (replay_from m st es) slot)) 1 0 ≡ epoch_of (replay_from m st es) slot + cond (is_invalid (mode_of st slot)) 1 0
-    starts_from st [] slot kept run = omega arith
-    starts_from st (e ∷ es) slot kept run =
-        let more = starts_of_more slot e es in
-        let rest = starts_from (next m st e.actor e.what) es slot (still_coherent m laws st e run.0 kept) run.1 in
-        elim (step_does m laws st e slot kept run.0) [
-          | inl stays ↦
-              let none = no_count (is_start_of slot e.what) stays.no_start in
-              let same = same_count (is_invalid (mode_of (next m st e.actor e.what) slot)) (is_invalid (mode_of st slot)) stays.invalid in
-              omega (arith, more, rest, none, same, stays.epoch)
-          | inr (inl opens) ↦
-              let one = one_count (is_start_of slot e.what) (ap (is_start_of slot) opens.what ∙ itself slot) in
-              let was = one_count (is_invalid (mode_of st slot)) opens.was in
-              let becomes = no_count (is_invalid (mode_of (next m st e.actor e.what) slot)) opens.becomes in
-              omega (arith, more, rest, one, was, becomes, opens.epoch)
-          | inr (inr falls) ↦
-              let none = no_count (is_start_of slot e.what) falls.no_start in
-              let was = no_count (is_invalid (mode_of st slot)) falls.was in
-              let becomes = one_count (is_invalid (mode_of (next m st e.actor e.what) slot)) falls.becomes in
-              omega (arith, more, rest, none, was, becomes, falls.epoch)
-        ]
-      where
-        itself : (n : ℕ) → eqb n n ≡ true
-        itself n = elim (eqb_tells n n) [ inl same ↦ same.0 | inr other ↦ absurd (other.1 refl) ]
-
-    -- a slot is started at most once more than its epoch has risen
-    pub few_starts : (history : List (Entry T P E R O J B)) (slot : ℕ) → IsLegal m history → starts_of slot history ≤ changes_in history + 1
-    few_starts history slot legal =
-        let whole = starts_from (blank m) history slot (coherent-blank m m.blank m.blank) legal in
-        let low = few_rises history slot legal in
-        let top = at_most (is_invalid (mode_of (blank m) slot)) in
-        omega (arith, whole, low, top)

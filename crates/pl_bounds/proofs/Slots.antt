@@ -36,7 +36,7 @@ not_invalid false h = refl
 
 module _ {P E R O : Type 0} (m : Meaning P E R O) where
   -- slots from 100 on are Invalid, at epoch 0
-  far_state : (st : Machine P) (slot : ℕ) → 100 ≤ slot → IsCoherent m st → (mode_of st slot ≡ Invalid) × (epoch_of st slot ≡ 0)
+  pub far_state : (st : Machine P) (slot : ℕ) → 100 ≤ slot → IsCoherent m st → (mode_of st slot ≡ Invalid) × (epoch_of st slot ≡ 0)
   far_state st slot far kept = (get_or-eq_default st.modes Invalid (omega (arith, far, kept.modes_long)), get_or-eq_default st.epochs 0 (omega (arith, far, kept.epochs_long)))
 
 module _ {T P E R O J B : Type 0} where

@@ -1,5 +1,5 @@
 -- How often things happen in a history.
-use Rattle.std.specs.Prelude.{◌≡◌, ℕ, ◌+◌, ◌==◌, ◌&&◌, ◌⊎◌, Bool, true, false, List, [], ◌∷◌, ◌++◌, count_by}
+use Rattle.std.specs.Prelude.{◌≡◌, ℕ, zero, suc, ◌+◌, ◌==◌, ◌&&◌, ◌⊎◌, Bool, true, false, List, [], ◌∷◌, ◌++◌, length, count_by}
 use Rattle.pl_tech.specs.Technology.{Meaning}
 use Rattle.pl_machine.specs.declared.entry.Command.{Command}
 use Rattle.pl_machine.specs.declared.entry.Command.TheVariants.{Edit, Apply, Export, Status, Cancel, After}
@@ -18,6 +18,11 @@ module _ {E : Type 0} where
   changes Status = false
   changes Cancel = true
   changes (After session calls) = false
+
+  -- how many commands sessions 1 to n have
+  abbrev pub commands_to : (ℕ → List (Command E)) → ℕ → ℕ
+  commands_to commands zero = 0
+  commands_to commands (suc n) = commands_to commands n + length (commands (suc n))
 
 module _ {T P E R O J B : Type 0} where
   -- the start of this slot at this epoch
@@ -49,3 +54,15 @@ module _ {T P E R O J B : Type 0} where
   RisesByChange m slot before e =
       (epoch_of (replay m (before ++ e ∷ [])) slot ≡ epoch_of (replay m before) slot)
       ⊎ ((is_change e.what ≡ true) × (epoch_of (replay m (before ++ e ∷ [])) slot ≡ epoch_of (replay m before) slot + 1))
+
+  -- a call of whatever command
+  abbrev pub is_call : What T P E R O J B → Bool
+  is_call (Call command reply) = true
+  is_call (Start slot epoch) = false
+  is_call (Finish slot epoch) = false
+  is_call (Late slot since now) = false
+  is_call Bye = false
+
+  -- how many entries are calls
+  abbrev pub calls_in : List (Entry T P E R O J B) → ℕ
+  calls_in history = count_by (λ e. is_call e.what) history

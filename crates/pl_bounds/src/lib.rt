@@ -4,5 +4,6 @@
 mod laws;
 
 pub use laws::{
-    epochs_count_applies_and_cancels, late_results_were_invalidated, slots_start_once_an_epoch,
+    calls_are_the_commands, epochs_count_applies_and_cancels, histories_are_short,
+    histories_of_scripts_are_short, late_results_were_invalidated, slots_start_once_an_epoch,
 };
