@@ -5,9 +5,9 @@
 #
 # COMMAND is run, slice or demo, TEXT a file for standard input (for demo: the number). n goes from FIRST (1) by STEP (1) until a run makes
 # fewer than n requests. Each run must end within 60 seconds: with status 0, a whole output and nothing said, or with status 6 and nothing
-# written, or, where the output was begun, a beginning of what a run with ample memory writes. With workers, or several sessions, what is
-# written depends on the order of turns, so there only its last line is looked at, and a beginning must be empty. The tool prints how often it saw each
-# end, and ends with 1 where a run ended otherwise. It needs a C compiler and glibc.
+# written, or, where the output was begun, a beginning of what a run with ample memory writes. What `run` writes with workers, or several
+# sessions, depends on the order of turns, so there only its last line is looked at, and a beginning must be empty. The tool prints how
+# often it saw each end, and ends with 1 where a run ended otherwise. It needs a C compiler and glibc.
 set -u
 program=$(readlink -f "$1") command=$2 text=$3 n=${4:-1} step=${5:-1}
 folder=$(mktemp -d)
@@ -52,7 +52,7 @@ once() {
 
 # Whether the order of turns may show in what is written.
 is_alone() {
-    [ "$command" = slice ] || { [ "$command" = run ] && ! grep -aqE '^workers [1-8]|^[ \t]*([2-9]|1[0-6])[ \t]' "$text"; }
+    [ "$command" = slice ] || [ "$command" = demo ] || { [ "$command" = run ] && ! grep -aqE '^workers [1-8]|^[ \t]*([2-9]|1[0-6])[ \t]' "$text"; }
 }
 
 once 0 || { echo "with ample memory: status $?, $(cat "$folder/err")"; exit 2; }
