@@ -148,7 +148,7 @@ fn move_often<T: Technology, R: Threads + Wait + Sync>(
     ensures ready { OnOk result (IsReady T.meaning T.job_value T.runs lock.now (table_of epochs.now) one.new) }
     ensures stays { OnOk result (MayGoOn (actor_of one.new) (seen_by one.new)) }
 {
-    for _ in 0..times {
+    for step in 0..times {
         move_once(one, rt, alloc, lock, epochs)?;
     }
     Ok(())
@@ -239,7 +239,7 @@ fn commands(alloc: Global) -> Result<Vec<Arc<Command<Edit>>>, NoMemory>
     ensures named { IfOk result (λ made. All NamesSession (map arc_value made.items)) }
 {
     let mut made = Vec::new(alloc);
-    for _ in 0..16u8 {
+    for place in 0..16u8 {
         made.push(loads(alloc)?)?;
     }
     made.push(Arc::new(alloc, Command::Apply)?)?;
