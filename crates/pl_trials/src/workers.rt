@@ -154,54 +154,47 @@ fn move_often<T: Technology, R: Threads + Wait + Sync>(
     Ok(())
 }
 
-// What came of it: how many jobs of each worker were stopped, how many results were late at epoch 0 where epoch 1 had come, how many
-// cancels were told that eight slots were started, and how many entries there are.
+// What came of it: how many workers had exactly one job stopped, how many results were late at epoch 0 where epoch 1 had come, how
+// many cancels were told that eight slots were started, and how many entries there are.
 #[derive(Debug, PartialEq, Eq, Clone, Copy)]
 struct Ending {
-    stopped: [u64; 8],
+    stopped: usize,
     late: usize,
     cancelled: usize,
     entries: usize,
 }
 
-// Whether a result was late at epoch 0 where epoch 1 had come.
-fn is_late<T: Technology>(entry: &Entry<T>) -> bool {
-    matches!(entry.what, What::Late(_, 0, 1))
-}
-
-// Whether a cancel was told that eight slots were started.
-fn cancels_eight<T: Technology>(entry: &Entry<T>) -> bool {
-    matches!(entry.what, What::Call(_, Reply::Cancelled(8)))
-}
-
-// What the history under the lock says of it.
+// What the workers and the history under the lock say of it.
 fn ending<T: Technology, R: Wait>(
     rt: &R,
+    helpers: &[Helper<'_, T>],
     lock: &TurnLock<Plant<T>>,
     pass: Pass<Plant<T>>,
-    stopped: [u64; 8],
 ) -> Ending
     requires { IsOf lock.now pass }
 {
+    let stopped = helpers
+        .iter()
+        .filter(|helper| helper.stopped() == 1)
+        .count();
     let mut turn = lock.take(rt, pass);
     let journal = turn.value().journal();
-    let ending = Ending {
-        stopped,
-        late: journal.iter().filter(|entry| is_late(entry)).count(),
-        cancelled: journal.iter().filter(|entry| cancels_eight(entry)).count(),
-        entries: journal.len(),
-    };
+    let late = journal
+        .iter()
+        .filter(|entry| matches!(entry.what, What::Late(_, 0, 1)))
+        .count();
+    let cancelled = journal
+        .iter()
+        .filter(|entry| matches!(entry.what, What::Call(_, Reply::Cancelled(8))))
+        .count();
+    let entries = journal.len();
     let _ = turn.end();
-    ending
-}
-
-// How many jobs of each of eight workers were stopped.
-fn stopped_of<T: Technology>(helpers: &[Helper<'_, T>]) -> [u64; 8] {
-    let mut stopped = [0; 8];
-    for (count, helper) in stopped.iter_mut().zip(helpers) {
-        *count = helper.stopped();
+    Ending {
+        stopped,
+        late,
+        cancelled,
+        entries,
     }
-    stopped
 }
 
 // What comes of the commands of session 1, before the last of which each worker starts a slot, and after which each closes its own.
@@ -221,9 +214,8 @@ fn cancelling<T: Technology, R: Threads + Wait + Sync>(
     let helpers = all_moved(rt, alloc, helpers)?;
     move_once(&mut one, rt, alloc, &lock, &epochs)?;
     let helpers = all_moved(rt, alloc, helpers)?;
-    let stopped = stopped_of(&helpers);
     let (pass, _) = one.into_parts();
-    Ok(ending(rt, &lock, pass, stopped))
+    Ok(ending(rt, &helpers, &lock, pass))
 }
 
 // A load of the facet.
@@ -251,7 +243,7 @@ fn commands(alloc: Global) -> Result<Vec<Arc<Command<Edit>>>, NoMemory>
 fn eight_jobs_that_are_cancelled_are_stopped(rt: HostRuntime) -> Result<(), Fail> {
     let alloc = rt.alloc();
     let wanted = Ending {
-        stopped: [1; 8],
+        stopped: 8,
         late: 8,
         cancelled: 1,
         entries: 34,
