@@ -52,7 +52,10 @@ fn a_cut_script_is_refused_or_run_as_it_is_read(rt: HostRuntime) -> Result<(), F
         let (status, sink) = run_of(&rt, alloc, bytes)?;
         assert!(rt; status == status_of(alloc, bytes)?, "{length} bytes");
         assert!(rt; matches!(status.code(), 0 | 3), "{length} bytes");
-        assert!(rt; (status == Status::Done) != sink.held().is_empty(), "{length} bytes");
+        assert!(rt;
+            (status == Status::Done) != sink.held().is_empty(),
+            "{length} bytes"
+        );
     }
     Ok(())
 }
