@@ -2,9 +2,13 @@
 #![tactic(auto)]
 
 #[cfg(test)]
+mod keys;
+#[cfg(test)]
 mod lock;
 #[cfg(test)]
 mod plants;
+#[cfg(test)]
+mod runners;
 #[cfg(test)]
 mod stopping;
 #[cfg(test)]

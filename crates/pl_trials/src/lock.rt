@@ -31,6 +31,23 @@ pub(crate) fn opened<T: Technology>(
     }
 }
 
+// Splits the passes of sessions 2 to 16 off the first one. The next ones are those of the workers.
+pub(crate) fn split_sessions<T: Technology>(lock: &TurnLock<Plant<T>>, first: &mut Pass<Plant<T>>)
+    requires lock { IsOf lock.now first.old }
+    requires number { number first.old ≡ 1 }
+    requires splits { splits first.old ≡ 0 }
+    ensures first_splits { splits first.new ≡ 15 }
+    ensures first_lock { AreOfOne first.old first.new }
+    ensures first_number { number first.new ≡ 1 }
+    ensures first_seen { seen first.new ≡ seen first.old }
+    ensures first_own { own first.new ≡ own first.old }
+    ensures first_joined { joined first.new ≡ joined first.old }
+{
+    for k in 0..15u8 {
+        let _ = lock.split(first);
+    }
+}
+
 // The pass of worker 1, which is the sixteenth that is split off the first one.
 pub(crate) fn of_worker<T: Technology>(
     lock: &TurnLock<Plant<T>>,
@@ -50,8 +67,6 @@ pub(crate) fn of_worker<T: Technology>(
     ensures first_own { own first.new ≡ own first.old }
     ensures first_joined { joined first.new ≡ joined first.old }
 {
-    for k in 0..15u8 {
-        let _ = lock.split(first);
-    }
+    split_sessions(lock, first);
     lock.split(first)
 }

@@ -13,7 +13,7 @@ use std::test::Fail;
 use std::thread::Threads;
 
 // A facet of 0.8 by 0.8 by 0.4 mm.
-const FACET: &[u8] =
+pub(crate) const FACET: &[u8] =
     b"solid a\nfacet normal 0 0 0\nouter loop\nvertex 0 0 0\nvertex 0.8 0 0\nvertex 0 0.8 0.4\nendloop\nendfacet\nendsolid a\n";
 
 // What session 1 calls.

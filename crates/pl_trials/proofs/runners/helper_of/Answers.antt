@@ -1,4 +1,4 @@
-use Rattle.pl_trials.proofs.stopping.helper_of.Goals as goal
+use Rattle.pl_trials.proofs.runners.helper_of.Goals as goal
 
 pub returns-clause-ready : goal.returns-clause-ready
 returns-clause-ready g c = c.worker.ensures.ready _ _ c.requires.lock c.requires.reader
