@@ -13,3 +13,5 @@ mod runners;
 mod stopping;
 #[cfg(test)]
 mod trial;
+#[cfg(test)]
+mod workers;
